@@ -1,0 +1,10 @@
+pub mod Tests
+pub mod Lists
+pub mod Patterns
+pub mod Walks
+pub mod Levels
+pub mod Search
+pub mod Order
+pub mod Index
+pub mod Entries
+pub mod Query

@@ -1,0 +1,111 @@
+-- Lists that are computed, what stands in them, and in which order.
+use mathlib.Core.Path.{_≡_, refl, sym, ap}
+use mathlib.Core.Logic.{_⊎_, inl, inr, ⊎-elim}
+use mathlib.Core.Bool.{Bool, true, false, not}
+use mathlib.Core.List.{List, [], _∷_, _++_, List·Memᴰ, List·Memᴰ·head, List·Memᴰ·tail, List·Memᴰ·cases-cons, List·Memᴰ·not-nil, List·Memᴰ·append-cases, Memᴰ·append-left, Memᴰ·append-right, Memᴰ·of-map, map}
+use Prim.Native.Nat.{ℕ, zero, suc, _+_, _≤_, _<_}
+use native.Mathlib.Nat.{eq-or-lt-of-le}
+use native.Mathlib.Omega.{arith}
+use lib.Dec.{T}
+use lib.ListN.{length}
+use Rattle.model.specs.Lists.{put, keep, from, upTo, spread, Sorted, none, next, Rising}
+
+module _ {A : Type 0} where
+  put-in : (b : Bool) {x z : A} {l : List A} → (T b × (x ≡ z)) ⊎ List·Memᴰ x l → List·Memᴰ x (put b z l)
+  put-in true (inl h) = List·Memᴰ·head (h .1)
+  put-in true (inr m) = List·Memᴰ·tail m
+  put-in false (inl h) = absurd (h .0)
+  put-in false (inr m) = m
+
+  put-out : (b : Bool) {x z : A} {l : List A} → List·Memᴰ x (put b z l) → (T b × (x ≡ z)) ⊎ List·Memᴰ x l
+  put-out true m = ⊎-elim (λ e. inl (tt, e)) inr (List·Memᴰ·cases-cons m)
+  put-out false m = inr m
+
+  pub keep-in : (f : A → Bool) {x : A} {l : List A} → List·Memᴰ x l → T (f x) → List·Memᴰ x (keep f l)
+  unfolding keep
+  keep-in f (List·Memᴰ·head {x = z} e) t = put-in (f z) (inl (rw e at t, e))
+  keep-in f (List·Memᴰ·tail {x = z} m) t = put-in (f z) (inr (keep-in f m t))
+
+  pub keep-out : (f : A → Bool) {x : A} (l : List A) → List·Memᴰ x (keep f l) → List·Memᴰ x l × T (f x)
+  unfolding keep
+  keep-out f [] m = absurd (List·Memᴰ·not-nil m)
+  keep-out f (z ∷ l) m = ⊎-elim (λ h. (List·Memᴰ·head (h .1), rw (h .1) (h .0))) (λ k. let (a, t) = keep-out f l k in (List·Memᴰ·tail a, t)) (put-out (f z) m)
+
+pub from-in : (a m x : ℕ) → a ≤ x → x < a + m → List·Memᴰ x (from a m)
+unfolding from
+from-in a zero x h k = absurd (omega arith)
+from-in a (suc m) x h k = ⊎-elim (λ e. List·Memᴰ·head (sym e)) (λ b. List·Memᴰ·tail (from-in (suc a) m x b (omega arith))) (eq-or-lt-of-le h)
+
+pub from-out : (a m x : ℕ) → List·Memᴰ x (from a m) → (a ≤ x) × (x < a + m)
+unfolding from
+from-out a zero x h = absurd (List·Memᴰ·not-nil h)
+from-out a (suc m) x h = ⊎-elim (λ e. (omega arith, omega arith)) (λ k. let h = from-out (suc a) m x k in (omega arith, omega arith)) (List·Memᴰ·cases-cons h)
+
+pub up-to : {n x : ℕ} → x < n → List·Memᴰ x (upTo n)
+up-to {n} {x} h = from-in 0 n x (omega arith) (omega arith)
+
+pub below : {n x : ℕ} → List·Memᴰ x (upTo n) → x < n
+below {n} {x} m = omega (arith, from-out 0 n x m)
+
+-- what passes a test and what fails it make up the list
+pub length-keep : {A : Type 0} (f : A → Bool) (l : List A) → length (keep f l) + length (keep (λ x. not (f x)) l) ≡ length l
+unfolding keep
+length-keep f [] = refl
+length-keep f (x ∷ l) = go (f x) (length-keep f l)
+  where
+    go : (b : Bool) → length (keep f l) + length (keep (λ x. not (f x)) l) ≡ length l
+        → length (put b x (keep f l)) + length (put (not b) x (keep (λ x. not (f x)) l)) ≡ suc (length l)
+    go true e = omega arith
+    go false e = omega arith
+
+pub length-from : (a m : ℕ) → length (from a m) ≡ m
+unfolding from
+length-from a zero = refl
+length-from a (suc m) = ap suc (length-from (suc a) m)
+
+pub spread-in : {A B : Type 0} (f : A → List B) {x : A} {l : List A} {b : B} → List·Memᴰ x l → List·Memᴰ b (f x) → List·Memᴰ b (spread f l)
+unfolding spread
+spread-in f (List·Memᴰ·head {x = z} {xs = l} e) h = Memᴰ·append-left (spread f l) (rw e at h)
+spread-in f (List·Memᴰ·tail {x = z} m) h = Memᴰ·append-right (f z) (spread-in f m h)
+
+pub spread-out : {A B : Type 0} (f : A → List B) (l : List A) {b : B} → List·Memᴰ b (spread f l) → (x : A) × List·Memᴰ x l × List·Memᴰ b (f x)
+unfolding spread
+spread-out f [] m = absurd (List·Memᴰ·not-nil m)
+spread-out f (z ∷ l) m = ⊎-elim (λ h. (z, List·Memᴰ·head refl, h)) (λ k. let (x, a, b) = spread-out f l k in (x, List·Memᴰ·tail a, b)) (List·Memᴰ·append-cases (f z) m)
+
+pub rising-from : (a m : ℕ) → Rising (from a m)
+unfolding from
+rising-from a zero = none
+rising-from a (suc m) = next (λ z h. from-out (suc a) m z h .0) (rising-from (suc a) m)
+
+module _ {A : Type 0} {R : A → A → Type 0} where
+  sorted-put : (b : Bool) (x : A) {l : List A} → ((z : A) → List·Memᴰ z l → R x z) → Sorted R l → Sorted R (put b x l)
+  sorted-put true x f s = next f s
+  sorted-put false x f s = s
+
+  pub sorted-keep : (f : A → Bool) {l : List A} → Sorted R l → Sorted R (keep f l)
+  unfolding keep
+  sorted-keep f none = none
+  sorted-keep f (next {x = x} {l = l} h s) = sorted-put (f x) x (λ z m. h z (keep-out f l m .0)) (sorted-keep f s)
+
+  pub sorted-imp : {S : A → A → Type 0} {l : List A} → ((x z : A) → R x z → S x z) → Sorted R l → Sorted S l
+  sorted-imp f none = none
+  sorted-imp f (next {x = x} h s) = next (λ z m. f x z (h z m)) (sorted-imp f s)
+
+  pub sorted-append : {l m : List A} → Sorted R l → Sorted R m → ((x z : A) → List·Memᴰ x l → List·Memᴰ z m → R x z) → Sorted R (l ++ m)
+  sorted-append none r f = r
+  sorted-append (next {x = x} {l = l} h s) r f =
+      next (λ z k. ⊎-elim (h z) (λ j. f x z (List·Memᴰ·head refl) j) (List·Memᴰ·append-cases l k)) (sorted-append s r (λ u z a b. f u z (List·Memᴰ·tail a) b))
+
+module _ {A B : Type 0} {R : A → A → Type 0} {S : B → B → Type 0} where
+  pub sorted-map : (f : A → B) {l : List A} → ((x z : A) → R x z → S (f x) (f z)) → Sorted R l → Sorted S (map f l)
+  sorted-map f h none = none
+  sorted-map f h (next {x = x} {l = l} g s) = next {x = f x} (λ z m. let (a, k, e) = Memᴰ·of-map f l m in rw e at (h x a (g a k))) (sorted-map f h s)
+
+  pub sorted-spread : (f : A → List B) {l : List A} → Sorted R l → ((x : A) → List·Memᴰ x l → Sorted S (f x))
+      → ((x z : A) (b c : B) → R x z → List·Memᴰ x l → List·Memᴰ z l → List·Memᴰ b (f x) → List·Memᴰ c (f z) → S b c) → Sorted S (spread f l)
+  unfolding spread
+  sorted-spread f none h k = none
+  sorted-spread f (next {x = x} {l = l} g s) h k = sorted-append (h x (List·Memᴰ·head refl))
+      (sorted-spread f s (λ z m. h z (List·Memᴰ·tail m)) (λ u v b c r i j. k u v b c r (List·Memᴰ·tail i) (List·Memᴰ·tail j)))
+      (λ b c i j. let (z, m, q) = spread-out f l j in k x z b c (g z m) (List·Memᴰ·head refl) (List·Memᴰ·tail m) i q)

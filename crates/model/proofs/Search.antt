@@ -1,0 +1,121 @@
+-- Laws of the level search's reply: it is document 01's, it goes on from level to level, and yes and no are right about walks.
+use mathlib.Core.Path.{_≡_, refl, sym, subst}
+use mathlib.Core.Logic.{⊎-elim, _≢_}
+use mathlib.Core.Bool.{Bool, true, false}
+use mathlib.Core.List.{List, [], _∷_, List·Memᴰ·not-nil, List·Memᴰ·head}
+use Prim.Native.Nat.{ℕ, zero, suc, _+_, _*_, _≤_, _<_}
+use native.Mathlib.Nat.{eq-or-lt-of-le, le-of-suc-le-suc}
+use native.Mathlib.Omega.{arith}
+use lib.Dec.{T}
+use lib.ListN.{length}
+use Rattle.model.specs.Lists.{_∈_, mem?, empty?}
+use Rattle.model.specs.Limits.{mostVertices, mostLongest}
+use Rattle.model.specs.Edges.{Graph}
+use Rattle.model.specs.Walks.{Runs}
+use Rattle.model.specs.Levels.{state, Stage, grow, stage, level, Reply, Yes, No, Spent, Refused, replyAt, replyFrom, levelReply, Quiet, Told, found, ended, stopped, isYes?, runs?}
+use Rattle.model.proofs.Tests.{Tests, test-mem, test-dec}
+use Rattle.model.proofs.Levels.{state-zero, Met, level-runs, level-all, level-size, fresh-size}
+
+pub empty-out : (l : List ℕ) → T (empty? l) → (x : ℕ) → ¬ (x ∈ l)
+empty-out [] t x m = List·Memᴰ·not-nil m
+empty-out (z ∷ l) t x m = t
+
+pub empty-in : (l : List ℕ) → ((x : ℕ) → ¬ (x ∈ l)) → T (empty? l)
+empty-in [] h = tt
+empty-in (z ∷ l) h = h z (List·Memᴰ·head refl)
+
+some : (l : List ℕ) → ¬ T (empty? l) → 1 ≤ length l
+some [] h = absurd (h tt)
+some (x ∷ l) h = omega arith
+
+is-true : (b : Bool) → T b → b ≡ true
+is-true true t = refl
+is-true false t = absurd t
+
+is-false : (b : Bool) → ¬ T b → b ≡ false
+is-false true n = absurd (n tt)
+is-false false n = refl
+
+-- ---- how the reply goes on from one level to the next
+
+module _ (g : Graph) (l : List ℕ) (s t n c : ℕ) where
+  reply-step : replyFrom g l t (suc n) c (stage g l s c) ≡ replyAt (mem? (state t 0) (level g l s (suc c))) (empty? (level g l s (suc c))) (suc c) (replyFrom g l t n (suc c) (stage g l s (suc c)))
+  unfolding replyFrom stage
+  reply-step = refl
+
+  has : t ∈ level g l s (suc c) → mem? (state t 0) (level g l s (suc c)) ≡ true
+  has m = is-true _ ((test-mem (state t 0) (level g l s (suc c))) .passes (rw (state-zero t) m))
+
+  lacks : ¬ (t ∈ level g l s (suc c)) → mem? (state t 0) (level g l s (suc c)) ≡ false
+  lacks d = is-false _ (λ h. d (rw (state-zero t) at ((test-mem (state t 0) (level g l s (suc c))) .yields h)))
+
+  pub reply-yes : t ∈ level g l s (suc c) → replyFrom g l t (suc n) c (stage g l s c) ≡ Yes (suc c)
+  reply-yes m = rw (reply-step, has m) refl
+
+  pub reply-no : ((z : ℕ) → ¬ (z ∈ level g l s (suc c))) → replyFrom g l t (suc n) c (stage g l s c) ≡ No (suc c)
+  reply-no d = rw (reply-step, lacks (d t), is-true (empty? (level g l s (suc c))) (empty-in (level g l s (suc c)) d)) refl
+
+  pub reply-on : {z : ℕ} → ¬ (t ∈ level g l s (suc c)) → z ∈ level g l s (suc c)
+      → replyFrom g l t (suc n) c (stage g l s c) ≡ replyFrom g l t n (suc c) (stage g l s (suc c))
+  reply-on {z} d m = rw (reply-step, lacks d, is-false (empty? (level g l s (suc c))) (λ e. empty-out (level g l s (suc c)) e z m)) refl
+
+-- ---- what the reply says
+
+module _ (g : Graph) (l : List ℕ) (s t : ℕ) where
+  told-from : (limit n c : ℕ) → c + n ≡ limit → Quiet g l s t c → Told g l s t limit (replyFrom g l t n c (stage g l s c))
+  unfolding replyFrom stage
+  told-from limit zero c e q = let same : c ≡ limit = omega arith in rw (← same) (stopped q)
+  told-from limit (suc n) c e q = go (mem? (state t 0) new) (empty? new) refl refl (told-from limit n (suc c) (omega arith))
+    where
+      new : List ℕ
+      new = level g l s (suc c)
+
+      later : Reply
+      later = replyFrom g l t n (suc c) (stage g l s (suc c))
+
+      go : (m v : Bool) → mem? (state t 0) new ≡ m → empty? new ≡ v → (Quiet g l s t (suc c) → Told g l s t limit later) → Told g l s t limit (replyAt m v (suc c) later)
+      go true v p r f = found c (omega arith) q ((test-mem (state t 0) new) .yields (rw p tt))
+      go false true p r f = ended c (omega arith) q (rw r tt)
+      go false false p r f = f (λ j h k. ⊎-elim (λ i. rw i (λ m. subst T p ((test-mem (state t 0) new) .passes m), λ u. subst T r u)) (λ i. q j h (le-of-suc-le-suc i)) (eq-or-lt-of-le k))
+
+  -- the reply is the one that the levels determine
+  pub told : (limit : ℕ) → Told g l s t limit (levelReply g l s t limit)
+  unfolding levelReply
+  told limit = told-from limit limit 0 (omega arith) (λ j h k. absurd (omega arith))
+
+  quiet-size : (c : ℕ) → Quiet g l s t c → c + length (stage g l s c .fresh) ≤ length l * mostVertices
+  quiet-size zero q = omega (arith, fresh-size g l s)
+  quiet-size (suc c) q =
+      omega (arith, quiet-size c (λ j h k. q j h (omega arith)), level-size g l s c, some (level g l s (suc c)) (q (suc c) (omega arith) (omega arith) .1))
+
+  -- SPENT: the allowance was no more than the states
+  pub told-spent : {limit c : ℕ} → Told g l s t limit (Spent c) → limit ≤ length l * mostVertices
+  told-spent {limit} (stopped q) = omega (arith, quiet-size limit q)
+
+  module _ (small : g .vertices ≤ mostVertices) (full : 1 ≤ length l) (hs : s < g .vertices) (ht : t < g .vertices) where
+    -- YES: a walk runs l
+    pub told-yes : {limit c : ℕ} → Told g l s t limit (Yes c) → Runs g l s t
+    told-yes (found c h q m) = level-runs g l s small full hs c t ht (rw (state-zero t) at m)
+
+    -- NO: none does
+    pub told-no : {limit c : ℕ} → Told g l s t limit (No c) → Runs g l s t → ⊥
+    told-no (ended c h q e) r =
+        let m = level-all g l small full s c t (empty-out (level g l s (suc c)) e) r in
+        q (m .at) (m .first) (m .last) .0 (rw (state-zero t) (m .stands))
+
+  -- "An allowance of 1,025 always gives yes or no."
+  pub never-spent : length l ≤ mostLongest → (c : ℕ) → levelReply g l s t 1025 ≢ Spent c
+  never-spent k c e = omega (arith, told-spent (rw e at (told 1025)))
+
+module _ (g : Graph) (l : List ℕ) (small : g .vertices ≤ mostVertices) (full : 1 ≤ length l) (s t : ℕ) (hs : s < g .vertices) (ht : t < g .vertices) where
+  pub test-runs : Tests (runs? g l s t) (Runs g l s t)
+  unfolding runs?
+  test-runs = go (levelReply g l s t (suc (length l * mostVertices))) (told g l s t (suc (length l * mostVertices)))
+    where
+      go : (r : Reply) → Told g l s t (suc (length l * mostVertices)) r → Tests (isYes? r) (Runs g l s t)
+      go (Yes c) h = record { yields = λ _. told-yes g l s t small full hs ht h; passes = λ _. tt }
+      go (No c) h = record { yields = λ x. absurd x; passes = λ r. told-no g l s t small full hs ht h r }
+      go (Spent c) h = absurd (omega (arith, told-spent g l s t h))
+
+  pub runs-dec : Dec (Runs g l s t)
+  runs-dec = test-dec test-runs

@@ -1,0 +1,70 @@
+-- What the station holds (document 01): the layout as a graph, the numbers of its edges, and edge memory.
+use mathlib.Core.Bool.{Bool, true, false, _&&_, cond}
+use mathlib.Core.List.{List, [], _∷_}
+use Prim.Native.Nat.{ℕ, _+_, _*_, _/_, _%_, _≤_}
+use lib.Dec.{eqb, ltb, leb}
+use lib.ListN.{length}
+use Rattle.model.specs.Lists.{within?}
+use Rattle.model.specs.Limits.{mostVertices, mostEdges, mostLabel, mostLongest}
+
+-- A layout: its places (vertices, numbered from 0), its longest pattern k, and its standing legs (edges), as the numbers below.
+pub record Graph : Type 0 where
+  pub vertices : ℕ
+  pub longest : ℕ
+  pub edges : List ℕ
+
+-- what checks 1 and 2 leave
+pub record Small (g : Graph) : Type 0 where
+  pub vertices-small : g .vertices ≤ mostVertices
+  pub longest-small : g .longest ≤ mostLongest
+
+-- "one slot a leg: from × 4,096 + colour × 256 + to"
+abbrev pub edgeNumber : ℕ → ℕ → ℕ → ℕ
+edgeNumber from label to = from * 4096 + label * 256 + to
+
+abbrev pub fromOf : ℕ → ℕ
+fromOf x = x / 4096
+
+abbrev pub labelOf : ℕ → ℕ
+labelOf x = x / 256 % 16
+
+abbrev pub toOf : ℕ → ℕ
+toOf x = x % 256
+
+-- "a colour 1 to 8"
+abbrev pub label? : ℕ → Bool
+label? c = within? 1 mostLabel c
+
+-- x is the number of an edge of a graph with that many vertices. Both ends are below them, so at most 256 vertices leave one reading
+unfoldable pub edge? : ℕ → ℕ → Bool
+edge? vertices x = ltb (fromOf x) vertices && (label? (labelOf x) && ltb (toOf x) vertices)
+
+unfoldable pub zeros? : List ℕ → Bool
+zeros? [] = true
+zeros? (x ∷ xs) = eqb x 0 && zeros? xs
+
+-- edges that rise from above prev, "then zeros"
+unfoldable pub risingEdges? : ℕ → ℕ → List ℕ → Bool
+risingEdges? vertices prev [] = true
+risingEdges? vertices prev (x ∷ xs) =
+    let zeros = zeros? xs in
+    let more = ltb prev x && (edge? vertices x && risingEdges? vertices x xs) in
+    cond (eqb x 0) zeros more
+
+-- what check 3 lets pass: at most 1,024 slots, of rising edges of this graph and then zeros. (A rising edge is above 0.)
+unfoldable pub edgeMemory? : ℕ → List ℕ → Bool
+edgeMemory? vertices xs = leb (length xs) mostEdges && risingEdges? vertices 0 xs
+
+-- the edges that stand in edge memory: the slots before the first zero
+unfoldable pub standing : List ℕ → List ℕ
+standing [] = []
+standing (x ∷ xs) = let more = x ∷ standing xs in cond (eqb x 0) [] more
+
+-- an edge put in before the first that is not below it, and an edge taken out
+unfoldable pub insertEdge : ℕ → List ℕ → List ℕ
+insertEdge x [] = x ∷ []
+insertEdge x (y ∷ ys) = let more = y ∷ insertEdge x ys in cond (ltb y x) more (x ∷ y ∷ ys)
+
+unfoldable pub removeEdge : ℕ → List ℕ → List ℕ
+removeEdge x [] = []
+removeEdge x (y ∷ ys) = let more = y ∷ removeEdge x ys in cond (eqb y x) ys more

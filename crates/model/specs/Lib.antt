@@ -1,0 +1,10 @@
+pub mod Lists
+pub mod Limits
+pub mod Edges
+pub mod Patterns
+pub mod Walks
+pub mod Order
+pub mod Levels
+pub mod Entries
+pub mod Query
+pub mod Replies

@@ -1,0 +1,29 @@
+-- The numbers that document 01 fixes, each named once.
+use Prim.Native.Nat.{ℕ, _^_}
+
+-- places are 1 to 256, legs at most 1,024, colours 1 to 8, the longest pattern k 1 to 4
+abbrev pub mostVertices : ℕ
+mostVertices = 256
+
+abbrev pub mostEdges : ℕ
+mostEdges = 1024
+
+abbrev pub mostLabel : ℕ
+mostLabel = 8
+
+abbrev pub mostLongest : ℕ
+mostLongest = 4
+
+-- work memory has at least 4,096 numbers
+abbrev pub leastWork : ℕ
+leastWork = 4096
+
+-- what the fields of an index entry are multiplied by; codes lie below the least
+abbrev pub hubUnit : ℕ
+hubUnit = 2 ^ 16
+
+abbrev pub ownerUnit : ℕ
+ownerUnit = 2 ^ 24
+
+abbrev pub sideUnit : ℕ
+sideUnit = 2 ^ 32

@@ -1,0 +1,41 @@
+-- Document 01's numbers and replies for each case of the enums.
+use Prim.Native.Nat.{ℕ}
+use Rattle.model.specs.Levels.{Reply, Yes, No, Spent, Refused}
+use Rattle.model.specs.declared.Refusal.{Refusal}
+use Rattle.model.specs.declared.Refusal.the-variants.{Vertices, Longest, EdgeMemory, WorkMemory, EdgeEnd, EdgeLabel, EdgePresent, EdgeAbsent, EdgeSlots, QueryEnd, QueryPattern, IndexMemory, IndexSlots, CardMark, CardVersion, CardEdges, CardOutput}
+use Rattle.model.specs.declared.Answer.{Answer}
+use Rattle.model.specs.declared.Answer.the-variants.{Accepted, Refused as NotAccepted}
+use Rattle.model.specs.declared.SearchReply.{SearchReply}
+use Rattle.model.specs.declared.SearchReply.the-variants.{Yes as SearchYes, No as SearchNo, Spent as SearchSpent, Refused as SearchRefused}
+
+-- "Number and condition"
+abbrev pub numberOf : Refusal → ℕ
+numberOf Vertices = 1
+numberOf Longest = 2
+numberOf EdgeMemory = 3
+numberOf WorkMemory = 4
+numberOf EdgeEnd = 5
+numberOf EdgeLabel = 6
+numberOf EdgePresent = 7
+numberOf EdgeAbsent = 8
+numberOf EdgeSlots = 9
+numberOf QueryEnd = 10
+numberOf QueryPattern = 11
+numberOf IndexMemory = 12
+numberOf IndexSlots = 13
+numberOf CardMark = 14
+numberOf CardVersion = 15
+numberOf CardEdges = 16
+numberOf CardOutput = 17
+
+-- the number of an answer, 0 where it is accepted
+abbrev pub answerOf : Answer → ℕ
+answerOf Accepted = 0
+answerOf (NotAccepted r) = numberOf r
+
+-- yes c, no c, spent c, refused n
+abbrev pub replyOf : SearchReply → Reply
+replyOf (SearchYes c) = Yes c
+replyOf (SearchNo c) = No c
+replyOf (SearchSpent c) = Spent c
+replyOf (SearchRefused r) = Refused (numberOf r)
