@@ -87,8 +87,8 @@ module _ (g : Graph) (side : ℕ) (test : ℕ → ℕ → List ℕ → Bool) whe
     -- an entry with a lower owner, or of one owner with a lower hub, is lower
     entry-lt : {a b e c d f : ℕ} → Listed g side test a b e → Listed g side test c d f → (a < c) ⊎ ((a ≡ c) × (b < d)) → e < f
     entry-lt r q h =
-        let i = code-below (small .longest-small) (r .pattern) in
-        let j = code-below (small .longest-small) (q .pattern) in
+        let i = code-below (small .longest-small) (r .pattern .keyed) in
+        let j = code-below (small .longest-small) (q .pattern .keyed) in
         ⊎-elim (λ k. omega (arith, r, q, small)) (λ k. omega (arith, r, q, small)) h
 
     side-rise : Rising (ofSide g side test)
@@ -128,4 +128,4 @@ module _ (g : Graph) (order : List ℕ) (small : Small g) where
   entries-rise = sorted-append (side-rise g 0 (out? g order) small) (side-rise g 1 (in? g order) small) (λ e f i j.
       let (_, _, r) = side-out g 0 (out? g order) i in
       let (_, _, q) = side-out g 1 (in? g order) j in
-      omega (arith, r, q, small, code-below (small .longest-small) (r .pattern)))
+      omega (arith, r, q, small, code-below (small .longest-small) (r .pattern .keyed)))

@@ -20,8 +20,8 @@ use Rattle.model.proofs.Order.{rank-same}
 pub number-same : {g : Graph} {l m : List ℕ} {a b c d : ℕ} (i j : ℕ) → Small g → Asked g l a b → Asked g m c d
     → entryOf i a b (code l) ≡ entryOf j c d (code m) → (i ≡ j) × (a ≡ c) × (b ≡ d) × (l ≡ m)
 number-same i j small p q e =
-    let hl = code-below (small .longest-small) (p .pattern) in
-    let hm = code-below (small .longest-small) (q .pattern) in
+    let hl = code-below (small .longest-small) (p .pattern .keyed) in
+    let hm = code-below (small .longest-small) (q .pattern .keyed) in
     (omega arith, omega arith, omega arith, code-inj (p .pattern) (q .pattern) (omega arith))
 
 swap : {g : Graph} {l : List ℕ} {s t : ℕ} → Asked g l s t → Asked g l t s

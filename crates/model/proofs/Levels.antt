@@ -13,7 +13,7 @@ use Rattle.model.specs.Lists.{_∈_, keep, upTo, any?, mem?}
 use Rattle.model.specs.Limits.{mostVertices}
 use Rattle.model.specs.Edges.{Graph, edgeNumber}
 use Rattle.model.specs.Walks.{Spells, here, edge, Runs, once, more}
-use Rattle.model.specs.Levels.{state, vertexOf, usedOf, states, leads?, led?, Stage, grow, stage, level}
+use Rattle.model.specs.Levels.{state, vertexOf, usedOf, states, leads?, led?, Leads, Stage, grow, stage, level}
 use Rattle.model.proofs.Tests.{Tests, test-and, test-not, test-eq, test-lt, test-mem, test-any, test-T, test-dec}
 use Rattle.model.proofs.Lists.{keep-in, keep-out, up-to, below, length-keep, length-from}
 use Rattle.model.proofs.Walks.{join, still, runs-trans}
@@ -47,12 +47,7 @@ module _ (g : Graph) (l : List ℕ) where
     λ h. keep-in (λ x. ltb (vertexOf x) (g .vertices)) (up-to (h .bound)) ((test-lt (vertexOf x) (g .vertices)) .passes (h .vertex)),
   )
 
-  -- an edge of the next label leads from x to z
-  pub record Leads (x z : ℕ) : Type 0 where
-    pub next : usedOf z ≡ suc (usedOf x) % length l
-    pub stands : edgeNumber (vertexOf x) (getD l (usedOf x) 0) (vertexOf z) ∈ g .edges
-
-  pub test-leads : (x z : ℕ) → Tests (leads? g l x z) (Leads x z)
+  pub test-leads : (x z : ℕ) → Tests (leads? g l x z) (Leads (g .edges) l x z)
   unfolding leads?
   test-leads x z =
       let t = test-and (test-eq (usedOf z) (suc (usedOf x) % length l)) (test-mem (edgeNumber (vertexOf x) (getD l (usedOf x) 0) (vertexOf z)) (g .edges)) in
@@ -61,7 +56,7 @@ module _ (g : Graph) (l : List ℕ) where
         passes = λ h. t .passes (h .next, h .stands);
       }
 
-  pub test-led : (last : List ℕ) (z : ℕ) → Tests (led? g l last z) ((x : ℕ) × (x ∈ last) × Leads x z)
+  pub test-led : (last : List ℕ) (z : ℕ) → Tests (led? g l last z) ((x : ℕ) × (x ∈ last) × Leads (g .edges) l x z)
   unfolding led?
   test-led last z = test-any (λ x. test-leads x z) last
 
@@ -101,7 +96,7 @@ module _ (g : Graph) (l : List ℕ) where
     pub record Reached (i z : ℕ) : Type 0 where
       pub is-state : IsState g l z
       pub fresh : Fresh i z
-      pub source : (x : ℕ) × (x ∈ level g l s i) × Leads x z
+      pub source : (x : ℕ) × (x ∈ level g l s i) × Leads (g .edges) l x z
 
     pub level-iff : (i z : ℕ) → (z ∈ level g l s (suc i)) ↔ Reached i z
     unfolding stage grow
@@ -153,7 +148,7 @@ module _ (g : Graph) (l : List ℕ) where
       inside : usedOf x < length l
 
     module _ (small : g .vertices ≤ mostVertices) (full : 1 ≤ length l) (hs : s < g .vertices) where
-      arrive : (x z : ℕ) → IsState g l z → Arrived x → Leads x z → Arrived z × (usedOf z ≡ 0 → Runs g l s (vertexOf z))
+      arrive : (x z : ℕ) → IsState g l z → Arrived x → Leads (g .edges) l x z → Arrived z × (usedOf z ≡ 0 → Runs g l s (vertexOf z))
       arrive x z hz a led = go (eq-or-lt-of-le (a .inside)) (led .next)
         where
           on : Spells g (a .stop) (take (suc (usedOf x)) l) (vertexOf z)
@@ -195,9 +190,9 @@ module _ (g : Graph) (l : List ℕ) where
   -- ---- where a level is empty, the levels before it had all that edges of the next labels lead to
 
   -- what holds of each such state holds where a walk ends
-  module _ (small : g .vertices ≤ mostVertices) (full : 1 ≤ length l) (P : ℕ → Type 0) (step : (x z : ℕ) → P x → IsState g l z → Leads x z → P z) where
+  module _ (small : g .vertices ≤ mostVertices) (full : 1 ≤ length l) (P : ℕ → Type 0) (step : (x z : ℕ) → P x → IsState g l z → Leads (g .edges) l x z → P z) where
     abbrev Next : ℕ → Type 0
-    Next x = (z : ℕ) → IsState g l z → Leads x z → P z
+    Next x = (z : ℕ) → IsState g l z → Leads (g .edges) l x z → P z
 
     spelt : {a m : ℕ} {w : List ℕ} (i : ℕ) → i < length l → drop i l ≡ w → Next (state a i) → Spells g a w m → P (state m 0)
     spelt i h e f here = absurd (cons≢nil (sym (drop-cons l i 0 h) ∙ e))
@@ -239,7 +234,7 @@ module _ (g : Graph) (l : List ℕ) where
   level-all small full s c t empty r = rw (state-zero t) at
       (run-through small full (Met s c) (λ x z m q led. on (m .at) (m .last) (m .stands) q led) (λ z q led. on 0 (omega arith) (level-zero s (state s 0) .1 (state-zero s)) q led) r)
     where
-      on : (j : ℕ) → j ≤ c → {x z : ℕ} → x ∈ level g l s j → IsState g l z → Leads x z → Met s c z
+      on : (j : ℕ) → j ≤ c → {x z : ℕ} → x ∈ level g l s j → IsState g l z → Leads (g .edges) l x z → Met s c z
       on j k {x} {z} m q led = ⊎-elim
           (λ f.
           let n : z ∈ level g l s (suc j) = level-iff s j z .1 (record { is-state = q; fresh = f; source = (x, m, led) }) in

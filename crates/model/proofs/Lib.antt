@@ -8,3 +8,4 @@ pub mod Order
 pub mod Index
 pub mod Entries
 pub mod Query
+pub mod Edges

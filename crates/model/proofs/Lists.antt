@@ -1,13 +1,14 @@
 -- Lists that are computed, what stands in them, and in which order.
-use mathlib.Core.Path.{_≡_, refl, sym, ap}
+use mathlib.Core.Path.{_≡_, refl, sym, ap, _∙_}
 use mathlib.Core.Logic.{_⊎_, inl, inr, ⊎-elim}
 use mathlib.Core.Bool.{Bool, true, false, not}
 use mathlib.Core.List.{List, [], _∷_, _++_, List·Memᴰ, List·Memᴰ·head, List·Memᴰ·tail, List·Memᴰ·cases-cons, List·Memᴰ·not-nil, List·Memᴰ·append-cases, Memᴰ·append-left, Memᴰ·append-right, Memᴰ·of-map, map}
 use Prim.Native.Nat.{ℕ, zero, suc, _+_, _≤_, _<_}
-use native.Mathlib.Nat.{eq-or-lt-of-le}
+use native.Mathlib.Nat.{eq-or-lt-of-le, le-of-suc-le-suc, not-suc-le-zero}
+use native.Mathlib.Decide.{ℕ-discrete}
 use native.Mathlib.Omega.{arith}
 use lib.Dec.{T}
-use lib.ListN.{length}
+use lib.ListN.{length, getD}
 use Rattle.model.specs.Lists.{put, keep, from, upTo, spread, Sorted, none, next, Rising}
 
 module _ {A : Type 0} where
@@ -109,3 +110,40 @@ module _ {A B : Type 0} {R : A → A → Type 0} {S : B → B → Type 0} where
   sorted-spread f (next {x = x} {l = l} g s) h k = sorted-append (h x (List·Memᴰ·head refl))
       (sorted-spread f s (λ z m. h z (List·Memᴰ·tail m)) (λ u v b c r i j. k u v b c r (List·Memᴰ·tail i) (List·Memᴰ·tail j)))
       (λ b c i j. let (z, m, q) = spread-out f l j in k x z b c (g z m) (List·Memᴰ·head refl) (List·Memᴰ·tail m) i q)
+
+-- ---- lists by their indices
+
+pub getD-in : (l : List ℕ) (i : ℕ) → i < length l → List·Memᴰ (getD l i 0) l
+getD-in [] i h = absurd (not-suc-le-zero h)
+getD-in (x ∷ l) zero h = List·Memᴰ·head refl
+getD-in (x ∷ l) (suc i) h = List·Memᴰ·tail (getD-in l i (le-of-suc-le-suc h))
+
+-- where an element stands
+pub record Index (l : List ℕ) (x : ℕ) : Type 0 where
+  pub i : ℕ
+  pub inside : i < length l
+  pub is : getD l i 0 ≡ x
+
+pub in-getD : {l : List ℕ} {x : ℕ} → List·Memᴰ x l → Index l x
+in-getD (List·Memᴰ·head e) = record { i = 0; inside = omega arith; is = sym e }
+in-getD (List·Memᴰ·tail m) = let k = in-getD m in record { i = suc (k .i); inside = omega (arith, k .inside); is = k .is }
+
+pub rising-lt : {l : List ℕ} → Rising l → (p q : ℕ) → p < q → q < length l → getD l p 0 < getD l q 0
+rising-lt none p q h k = absurd (not-suc-le-zero k)
+rising-lt (next {l = l} f s) zero zero h k = absurd (omega arith)
+rising-lt (next {l = l} f s) zero (suc q) h k = f (getD l q 0) (getD-in l q (le-of-suc-le-suc k))
+rising-lt (next f s) (suc p) zero h k = absurd (not-suc-le-zero h)
+rising-lt (next f s) (suc p) (suc q) h k = rising-lt s p q (le-of-suc-le-suc h) (le-of-suc-le-suc k)
+
+pub rising-le : {l : List ℕ} → Rising l → (p q : ℕ) → p ≤ q → q < length l → getD l p 0 ≤ getD l q 0
+rising-le {l} s p q h k = ⊎-elim (λ e. omega (arith, ap (λ (n : ℕ). getD l n 0) e)) (λ b. omega (arith, rising-lt s p q b k)) (eq-or-lt-of-le h)
+
+-- a statement that holds of each index below i, as a loop over the indices finds it
+pub record Below (P : ℕ → Type 0) (i : ℕ) : Type 0 where
+  pub at : (j : ℕ) → j < i → P j
+
+pub below-none : {P : ℕ → Type 0} → Below P 0
+below-none = record { at = λ j h. absurd (not-suc-le-zero h) }
+
+pub below-more : {P : ℕ → Type 0} {i : ℕ} → Below P i → P i → Below P (i + 1)
+below-more {P} {i} b p = record { at = λ j h. elim (ℕ-discrete i j) [ yes e ↦ rw e at p | no n ↦ b .at j (omega arith) ] }

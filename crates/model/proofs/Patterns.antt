@@ -8,7 +8,7 @@ use native.Mathlib.Omega.{arith}
 use lib.ListN.{length, take, drop, length-take, length-append, take-append-drop}
 use lib.Seq.{take-append-seam}
 use Rattle.model.specs.Lists.{_∈_, same?, keep, from, spread, Sorted, none, next, all?}
-use Rattle.model.specs.Limits.{hubUnit}
+use Rattle.model.specs.Limits.{hubUnit, mostLongest, mostLabel}
 use Rattle.model.specs.Edges.{label?}
 use Rattle.model.specs.Patterns.{times, Keyed, keyed?, MinRepeat, repeatFrom, minRepeat, Pattern, own?, codeFrom, code, words, patterns}
 use Rattle.model.proofs.Tests.{Tests, test-map, test-and, test-le, test-all, test-same, by-test}
@@ -21,7 +21,7 @@ test-keyed k l = test-map (λ (h, f). record { long = h .0; short = h .1; labels
     (test-and (test-and (test-le 1 (length l)) (test-le (length l) k)) (test-all (λ c. test-and (test-le 1 c) (test-le c 8)) l))
 
 abbrev pub Digits : List ℕ → Type 0
-Digits l = (c : ℕ) → c ∈ l → (1 ≤ c) × (c ≤ 8)
+Digits l = (c : ℕ) → c ∈ l → (1 ≤ c) × (c ≤ mostLabel)
 
 pub code-lt : (k a b : ℕ) (l : List ℕ) → length l ≤ k → Digits l → a < b → codeFrom a l < b * 16 ^ k
 unfolding codeFrom
@@ -31,7 +31,7 @@ code-lt (suc k) a b (c ∷ l) h d q =
     let e = d c (List·Memᴰ·head refl) in
     rw (pow-succ', ← mul-assoc) (code-lt k (a * 16 + c) (b * 16) l (le-of-suc-le-suc h) (λ x m. d x (List·Memᴰ·tail m)) (omega arith))
 
-code-ge : (a : ℕ) (l : List ℕ) → a ≤ codeFrom a l
+pub code-ge : (a : ℕ) (l : List ℕ) → a ≤ codeFrom a l
 unfolding codeFrom
 code-ge a [] = omega arith
 code-ge a (c ∷ l) = omega (arith, code-ge (a * 16 + c) l)
@@ -49,8 +49,8 @@ code-same a b (c ∷ l) (d ∷ m) p q dl dm e =
     let hc : c ≡ d = omega arith in
     (omega arith, ap₂ _∷_ hc i)
 
-pub code-below : {k : ℕ} {l : List ℕ} → k ≤ 4 → Pattern k l → code l < hubUnit
-code-below {k} {l} h p = code-lt 4 0 1 l (omega (arith, p .keyed .short)) (p .keyed .labels) (omega arith)
+pub code-below : {k : ℕ} {l : List ℕ} → k ≤ mostLongest → Keyed k l → code l < hubUnit
+code-below {k} {l} h p = code-lt mostLongest 0 1 l (omega (arith, p .short)) (p .labels) (omega arith)
 
 pub code-inj : {k : ℕ} {l m : List ℕ} → Pattern k l → Pattern k m → code l ≡ code m → l ≡ m
 unfolding codeFrom
@@ -67,7 +67,7 @@ infix 50 _∈ˡ_
 abbrev _∈ˡ_ : List ℕ → List (List ℕ) → Type 0
 l ∈ˡ ls = List·Memᴰ l ls
 
-length-times : (j : ℕ) (m : List ℕ) → length (times j m) ≡ j * length m
+pub length-times : (j : ℕ) (m : List ℕ) → length (times j m) ≡ j * length m
 unfolding times
 length-times zero m = omega arith
 length-times (suc j) m = omega (arith, length-append m (times j m), length-times j m)

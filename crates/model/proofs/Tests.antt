@@ -15,6 +15,22 @@ pub record Tests (b : Bool) (P : Type 0) : Type 0 where
 pub test-map : {b : Bool} {P Q : Type 0} → (P → Q) → (Q → P) → Tests b P → Tests b Q
 test-map f g p = record { yields = λ t. f (p .yields t); passes = λ q. p .passes (g q) }
 
+-- what a test answers where its statement is known
+pub test-true : {b : Bool} {P : Type 0} → Tests b P → P → b ≡ true
+test-true {b = true} t p = refl
+test-true {b = false} t p = absurd (t .passes p)
+
+pub test-false : {b : Bool} {P : Type 0} → Tests b P → ¬ P → b ≡ false
+test-false {b = true} t n = absurd (n (t .yields tt))
+test-false {b = false} t n = refl
+
+-- and what follows from its answer
+pub test-yields : {b : Bool} {P : Type 0} → Tests b P → b ≡ true → P
+test-yields t e = t .yields (rw e tt)
+
+pub test-fails : {b : Bool} {P : Type 0} → Tests b P → b ≡ false → ¬ P
+test-fails t e p = rw e at (t .passes p)
+
 pub test-dec : {b : Bool} {P : Type 0} → Tests b P → Dec P
 test-dec {b = true} p = yes (p .yields tt)
 test-dec {b = false} p = no (λ q. p .passes q)

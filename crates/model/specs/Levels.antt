@@ -1,11 +1,12 @@
 -- The plain check (level search) of document 01: its levels, and the reply that they determine.
+use mathlib.Core.Path.{_≡_}
 use mathlib.Core.Bool.{Bool, true, false, not, _&&_}
 use mathlib.Core.List.{List, [], _∷_}
 use Prim.Native.Nat.{ℕ, zero, suc, _+_, _*_, _/_, _%_, _≤_, _<_}
 use lib.Dec.{T, eqb, ltb}
 use lib.ListN.{length, getD}
 use Rattle.model.specs.Lists.{_∈_, keep, upTo, any?, mem?, empty?}
-use Rattle.model.specs.Limits.{mostVertices}
+use Rattle.model.specs.Limits.{mostVertices, mostLongest}
 use Rattle.model.specs.Edges.{Graph, edgeNumber}
 
 -- a pair (place, colours of L used so far) as one number: used × 256 + vertex. (s, 0) is s itself
@@ -18,6 +19,10 @@ vertexOf x = x % mostVertices
 abbrev pub usedOf : ℕ → ℕ
 usedOf x = x / mostVertices
 
+-- a search has at most 1,024 states
+abbrev pub mostStates : ℕ
+mostStates = mostLongest * mostVertices
+
 -- every state of the graph
 unfoldable pub states : Graph → List ℕ → List ℕ
 states g l = keep (λ x. ltb (vertexOf x) (g .vertices)) (upTo (length l * mostVertices))
@@ -27,6 +32,11 @@ unfoldable pub leads? : Graph → List ℕ → ℕ → ℕ → Bool
 leads? g l x z =
     eqb (usedOf z) (suc (usedOf x) % length l)
     && mem? (edgeNumber (vertexOf x) (getD l (usedOf x) 0) (vertexOf z)) (g .edges)
+
+-- the same as a statement
+pub record Leads (edges l : List ℕ) (x z : ℕ) : Type 0 where
+  pub next : usedOf z ≡ suc (usedOf x) % length l
+  pub stands : edgeNumber (vertexOf x) (getD l (usedOf x) 0) (vertexOf z) ∈ edges
 
 -- such an edge leads to z from some state of the level
 unfoldable pub led? : Graph → List ℕ → List ℕ → ℕ → Bool

@@ -1,0 +1,5 @@
+pub mod Marks
+pub mod Grow
+pub mod Run
+pub mod Leads
+pub mod Stands

@@ -1,0 +1,89 @@
+-- `level_search::expand` meets its contract: the run of edges at the key of state x leads where `Leads` says.
+use Prim.Native.Nat.{ℕ, _+_, _*_, _/_, _%_, _≤_, _<_}
+use native.Mathlib.Nat.{mod-lt}
+use native.Mathlib.Omega.{arith}
+use lib.ListN.{length, getD}
+use Rattle.level_search.proofs.Grow.{grown-as}
+use Rattle.level_search.proofs.Run.{under-up}
+use Rattle.level_search.proofs.Leads.{ahead-leads, leads-ahead}
+use borrow.Author.Needs.{needs}
+use Rattle.level_search.proofs.expand.Statement.{statement}
+use Rattle.level_search.proofs.expand.Tie as tie
+
+label : (c : tie.After-shared-slice-known4)
+    → getD (c .before .before .before .before .before .args .pattern .now) (c .before .before .before .before .before .args .x / 256) 0 < 256
+label c = omega (arith, c .shared-slice-known4 .given (c .before .before .before .before .before .args .x / 256))
+
+position : (c : tie.After-shared-slice-known4)
+    → (c .before .before .before .before .before .args .x / 256 + 1) % length (c .before .before .before .before .before .args .pattern .now) < 4
+position c =
+    let short = c .before .before .before .before .before .pre .1 .1 .0 in
+    omega (arith, mod-lt (c .before .before .before .before .before .args .x / 256 + 1) (short .least), short .most)
+
+shared-slice-read-label : tie.Need-shared-slice-read-label
+shared-slice-read-label c = search needs
+
+cast-label : tie.Need-cast-label
+cast-label c = omega (arith, label c)
+
+cast-key : tie.Need-cast-key
+cast-key c = search needs
+
+mul-key : tie.Need-mul-key
+mul-key c = search needs
+
+mul-key-2 : tie.Need-mul-key-2
+mul-key-2 c = omega (arith, label c)
+
+add-key : tie.Need-add-key
+add-key c = omega (arith, label c)
+
+add-base : tie.Need-add-base
+add-base c = search needs
+
+rem-base : tie.Need-rem-base
+rem-base c = search needs
+
+mul-base : tie.Need-mul-base
+mul-base c = omega (arith, position c)
+
+mul-spread : tie.Need-mul-spread
+mul-spread c = search needs
+
+shared-slice-read-spread : tie.Need-shared-slice-read-spread
+shared-slice-read-spread c = search needs
+
+spread-requires : tie.Need-spread-requires
+spread-requires c κs = 
+    let start = c .before .before .before .before .before .before .before in
+    let l = label (c .before .before) in
+    let p = position (c .before .before) in
+    (
+      (start .pre .0 .0, under-up (omega arith) (start .pre .0 .1 .under (start .args .x % 256) (omega arith))),
+      (start .pre .1 .0, (omega arith, omega arith)),
+    )
+
+same-length : tie.Need-same-length
+same-length c = search needs
+
+returns : tie.Need-returns
+returns c = grown-as (c .before .before .spread .ensures) (ahead-leads _ _ _) (leads-ahead _ _ _)
+
+pub expand-spec : {M : Type 1} → statement M
+expand-spec =
+    tie.close
+    (tie.spec
+    shared-slice-read-label
+    cast-label
+    cast-key
+    mul-key
+    mul-key-2
+    add-key
+    add-base
+    rem-base
+    mul-base
+    mul-spread
+    shared-slice-read-spread
+    spread-requires
+    same-length
+    returns)

@@ -1,0 +1,70 @@
+-- `level_search::first_slots` meets its contract: the slots of the vertices below v are written, and no edge before slot i starts at v or above.
+use Prim.Native.Nat.{_-_, _≤_, _*_, zero-le}
+use native.Mathlib.Omega.{arith}
+use borrow.Author.Needs.{needs}
+use Rattle.level_search.specs.Work.{Under, Starts}
+use Rattle.level_search.proofs.Run.{under-up, under-none, starts-none, starts-set}
+use Rattle.level_search.proofs.first_slots.Statement.{statement}
+use Rattle.level_search.proofs.first_slots.Tie as tie
+
+abbrev Inv-loop : tie.InvT-loop
+Inv-loop vertices edges slots₀ i₀ v₀ slots i v = (v ≤ vertices) × (Starts edges slots × Under edges (v * 4096) i)
+
+abbrev μ-loop : tie.MeasureT-loop
+μ-loop vertices edges slots₀ i₀ v₀ slots i v = vertices - v
+
+loop-holds : tie.Need-loop-holds Inv-loop μ-loop
+loop-holds c = (zero-le, (starts-none _, under-none _ _))
+
+mul-skip : tie.Need-mul-skip Inv-loop μ-loop
+mul-skip c = search needs
+
+skip-requires : tie.Need-skip-requires Inv-loop μ-loop
+skip-requires c κs = c .before .loop .inv .1 .1
+
+cast-slots : tie.Need-cast-slots Inv-loop μ-loop
+cast-slots c = search needs
+
+mul-slots : tie.Need-mul-slots Inv-loop μ-loop
+mul-slots c = search needs
+
+array-write-slots : tie.Need-array-write-slots Inv-loop μ-loop
+array-write-slots c = search needs
+
+add-v : tie.Need-add-v Inv-loop μ-loop
+add-v c = search needs
+
+loop-less : tie.Need-loop-less Inv-loop μ-loop
+loop-less c = search needs
+
+loop-again : tie.Need-loop-again Inv-loop μ-loop
+loop-again c =
+    let l = c .before .before in
+    let bound = l .before .before .pre in
+    (
+      omega (arith, c .before .loop-test .taken),
+      (
+        starts-set (l .loop .v) (c .skip .result) (omega (arith, c .before .loop-test .taken)) (l .loop .inv .1 .0) (c .skip .ensures .under),
+        under-up (omega arith) (c .skip .ensures .under),
+      ),
+    )
+
+returns : tie.Need-returns Inv-loop μ-loop
+returns c = c .before .loop .inv .1 .0
+
+pub first-slots-spec : {M : Type 1} → statement M
+first-slots-spec =
+    tie.close
+    (tie.spec
+    Inv-loop
+    μ-loop
+    loop-holds
+    mul-skip
+    skip-requires
+    cast-slots
+    mul-slots
+    array-write-slots
+    add-v
+    loop-less
+    loop-again
+    returns)

@@ -1,0 +1,62 @@
+-- `level_search::reach` meets its contract: a state that is marked adds nothing, and another is marked and queued, for which there is room.
+use Prim.Native.Nat.{ℕ, _≤_}
+use borrow.Author.Needs.{needs}
+use native.Mathlib.Omega.{arith}
+use lib.ListN.{length-set}
+use Rattle.model.specs.Levels.{mostStates}
+use Rattle.level_search.proofs.Grow.{room-left, grown-old, grown-new}
+use Rattle.level_search.proofs.reach.Statement.{statement}
+use Rattle.level_search.proofs.reach.Tie as tie
+
+-- where y is not marked, the queue has room
+left : (c : tie.Else1) → c .before .before .args .tail ≤ mostStates
+left c = room-left _ _ _ (c .before .before .pre .0) (c .before .before .pre .1) (c .if1 .left)
+
+mul-if1 : tie.Need-mul-if1
+mul-if1 c = search needs
+
+slice-read-if1 : tie.Need-slice-read-if1
+slice-read-if1 c = search needs
+
+returns : tie.Need-returns
+returns c = grown-old _ _ (c .before .before .args .y) (c .if1 .taken)
+
+mul-work : tie.Need-mul-work
+mul-work c = search needs
+
+slice-write-work : tie.Need-slice-write-work
+slice-write-work c = search needs
+
+add-work : tie.Need-add-work
+add-work c = omega (arith, left c)
+
+mul-work-2 : tie.Need-mul-work-2
+mul-work-2 c = omega (arith, left c)
+
+slice-write-work-2 : tie.Need-slice-write-work-2
+slice-write-work-2 c = simp length-set (omega (arith, left c))
+
+add-result : tie.Need-add-result
+add-result c = omega (arith, left c)
+
+same-length : tie.Need-same-length
+same-length c = search needs
+
+returns-2 : tie.Need-returns-2
+returns-2 c = grown-new _ _ _ (c .before .before .pre .0) (c .before .before .pre .1) (c .if1 .left)
+
+pub reach-spec : {M : Type 1} → statement M
+reach-spec =
+    tie.close
+    (tie.spec
+    mul-if1
+    slice-read-if1
+    returns
+    mul-work
+    slice-write-work
+    add-work
+    mul-work-2
+    slice-write-work-2
+    add-result
+    same-length
+    returns-2)

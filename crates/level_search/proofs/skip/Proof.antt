@@ -1,0 +1,54 @@
+-- `level_search::skip` meets its contract: the edges passed are below the key.
+use Prim.Native.Nat.{_-_}
+use native.Mathlib.Omega.{arith}
+use borrow.Author.Needs.{needs}
+use lib.ListN.{length}
+use Rattle.level_search.specs.Work.{Under}
+use Rattle.level_search.proofs.Run.{under-more}
+use Rattle.level_search.proofs.skip.Statement.{statement}
+use Rattle.level_search.proofs.skip.Tie as tie
+
+abbrev Inv-loop : tie.InvT-loop
+Inv-loop edges from key i₀ i = Under edges key i
+
+abbrev μ-loop : tie.MeasureT-loop
+μ-loop edges from key i₀ i = length edges - i
+
+loop-holds : tie.Need-loop-holds Inv-loop μ-loop
+loop-holds c = c .pre
+
+mul-if1 : tie.Need-mul-if1 Inv-loop μ-loop
+mul-if1 c = search needs
+
+shared-slice-read-if1 : tie.Need-shared-slice-read-if1 Inv-loop μ-loop
+shared-slice-read-if1 c = search needs
+
+returns : tie.Need-returns Inv-loop μ-loop
+returns c = record { under = c .before .before .before .loop .inv; reached = λ _. c .if1 .taken }
+
+add-i : tie.Need-add-i Inv-loop μ-loop
+add-i c = omega arith
+
+loop-less : tie.Need-loop-less Inv-loop μ-loop
+loop-less c = omega arith
+
+loop-again : tie.Need-loop-again Inv-loop μ-loop
+loop-again c = under-more (c .before .before .before .loop .inv) (c .before .before .loop-test .taken) (c .if1 .left)
+
+returns-2 : tie.Need-returns-2 Inv-loop μ-loop
+returns-2 c = record { under = c .before .loop .inv; reached = λ h. absurd (omega (arith, c .loop-test .left)) }
+
+pub skip-spec : {M : Type 1} → statement M
+skip-spec =
+    tie.close
+    (tie.spec
+    Inv-loop
+    μ-loop
+    loop-holds
+    mul-if1
+    shared-slice-read-if1
+    returns
+    add-i
+    loop-less
+    loop-again
+    returns-2)

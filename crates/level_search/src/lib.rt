@@ -1,0 +1,169 @@
+// The level search (plain check): levels of states, a state being labels used * 256 + vertex, and the call with its checks.
+
+
+
+use model::SearchReply;
+ghost use mathlib.Core.Path.{_≡_};
+ghost use mathlib.Core.List.{List};
+ghost use Prim.Native.Nat.{ℕ, _+_, _*_, _≤_, _<_, _^_};
+ghost use lib.ListN.{length, getD};
+ghost use Rattle.model.specs.Lists.{Rising, zeroed};
+ghost use Rattle.model.specs.Limits.{mostVertices, leastWork};
+ghost use Rattle.model.specs.Levels.{mostStates, Leads};
+ghost use Rattle.model.specs.Replies.{replyOf};
+
+ghost use Rattle.level_search.specs.Work.{Room, Grown, Under, Skipped, Starts, Ahead, Next, Fit, Short};
+ghost use Rattle.level_search.specs.Run.{Searchable, foundBy};
+
+// Work memory: a mark for each state, then the queue of states reached.
+const QUEUE: usize = 1024;
+const WORK: usize = 4096;
+
+// The first slot from `from` on whose edge is at least key.
+fn skip(edges: &[u32], from: usize, key: u32) -> usize
+    requires { ⌜ Under (now edges) key from ⌝ }
+    ensures { λ r. ⌜ Skipped (now (edges .entry)) key r ⌝ }
+{
+    let mut i = from;
+    while i < edges.len() {
+        if key <= edges[i] {
+            return i;
+        }
+        i += 1;
+    }
+    i
+}
+
+// For each vertex, the slot where its edges start, so that a search looks at a vertex's own edges only.
+fn first_slots(vertices: u32, edges: &[u32]) -> [usize; 256]
+    requires { ⌜ vertices ≤ mostVertices ⌝ }
+    ensures { λ r. ⌜ Starts (now (edges .entry)) r ⌝ }
+{
+    let mut slots = [0usize; 256];
+    let mut i = 0;
+    let mut v: u32 = 0;
+    while v < vertices {
+        i = skip(edges, i, v * 4096);
+        slots[v as usize] = i;
+        v += 1;
+    }
+    slots
+}
+
+// Marks the state y and queues it, if it is not marked yet.
+fn reach(work: &mut [u64], y: usize, tail: usize) -> usize
+    requires { ⌜ Room (now work) tail × (y < mostStates) ⌝ }
+    ensures { λ r. ⌜ Grown (now (work .entry)) tail (now (work .exit)) r (λ x. x ≡ y) ⌝ }
+{
+    if work[y] == 1 {
+        return tail;
+    }
+    work[y] = 1;
+    work[QUEUE + tail] = y as u64;
+    tail + 1
+}
+
+// Reaches base + to for every edge key + to, to from 0 to 255. No edge before slot `from` is one.
+fn spread(
+    edges: &[u32],
+    from: usize,
+    key: u32,
+    base: usize,
+    work: &mut [u64],
+    tail: usize,
+) -> usize
+    requires { ⌜ Rising (now edges) × Under (now edges) key from ⌝ }
+    requires { ⌜ (Room (now work) tail) × ((base + mostVertices ≤ mostStates) × (key + 256 < 2 ^ 32)) ⌝ }
+    ensures { λ r. ⌜ Grown (now (work .entry)) tail (now (work .exit)) r (Ahead (now (edges .entry)) (length (now (edges .entry))) key base) ⌝ }
+{
+    let end = key + 256;
+    let mut i = skip(edges, from, key);
+    let mut n = tail;
+    while i < edges.len() {
+        let edge = edges[i];
+        if end <= edge {
+            return n;
+        }
+        n = reach(work, base + (edge - key) as usize, n);
+        i += 1;
+    }
+    n
+}
+
+// Reaches every state that an edge of the next label leads to from state x.
+fn expand(
+    edges: &[u32],
+    slots: &[usize],
+    pattern: &[u8],
+    x: usize,
+    work: &mut [u64],
+    tail: usize,
+) -> usize
+    requires { ⌜ Rising (now edges) × Starts (now edges) (now slots) ⌝ }
+    requires { ⌜ Room (now work) tail × (Short (now pattern) × (x < length (now pattern) * mostVertices)) ⌝ }
+    ensures { λ r. ⌜ Grown (now (work .entry)) tail (now (work .exit)) r (Leads (now (edges .entry)) (now (pattern .entry)) x) ⌝ }
+{
+    let used = x / 256;
+    let vertex = x % 256;
+    let label = pattern[used] as u32;
+    let key = vertex as u32 * 4096 + label * 256;
+    let base = (used + 1) % pattern.len() * 256;
+    spread(edges, slots[vertex], key, base, work, tail)
+}
+
+// Builds the next level from the states at lo to hi in the queue, and returns its end.
+fn next_level(
+    edges: &[u32],
+    slots: &[usize],
+    pattern: &[u8],
+    work: &mut [u64],
+    lo: usize,
+    hi: usize,
+) -> usize
+    requires { ⌜ Rising (now edges) × Starts (now edges) (now slots) ⌝ }
+    requires { ⌜ Room (now work) hi × (Short (now pattern) × (Fit (now pattern) (now work) lo hi × (lo ≤ hi))) ⌝ }
+    ensures { λ r. ⌜ Grown (now (work .entry)) hi (now (work .exit)) r (Next (now (edges .entry)) (now (pattern .entry)) (now (work .entry)) lo hi) ⌝ }
+{
+    let mut n = hi;
+    let mut k = lo;
+    while k < hi {
+        let x = work[QUEUE + k] as usize;
+        n = expand(edges, slots, pattern, x, work, n);
+        k += 1;
+    }
+    n
+}
+
+// The levels, over work memory that is zero.
+fn levels(
+    vertices: u32,
+    edges: &[u32],
+    pattern: &[u8],
+    s: u32,
+    t: u32,
+    limit: u32,
+    work: &mut [u64],
+) -> SearchReply
+    requires { ⌜ Searchable vertices (now edges) (now pattern) s t ⌝ }
+    requires { ⌜ (leastWork ≤ length (now work)) × (now work ≡ zeroed (now work)) ⌝ }
+    ensures { λ r. ⌜ replyOf r ≡ foundBy vertices (now (edges .entry)) (now (pattern .entry)) s t limit ⌝ }
+{
+    let slots = first_slots(vertices, edges);
+    work[QUEUE] = s as u64;
+    let mut lo = 0;
+    let mut hi = 1;
+    let mut c: u32 = 0;
+    while c < limit {
+        let end = next_level(edges, &slots, pattern, work, lo, hi);
+        c += 1;
+        if work[t as usize] == 1 {
+            return SearchReply::Yes(c);
+        }
+        if end == hi {
+            return SearchReply::No(c);
+        }
+        lo = hi;
+        hi = end;
+    }
+    SearchReply::Spent(limit)
+}

@@ -1,0 +1,4 @@
+pub mod Keying
+pub mod Repeating
+pub mod Lengths
+pub mod Coding
