@@ -28,3 +28,7 @@ Check = ℕ × Bool
 unfoldable pub firstRefusal : List Check → ℕ
 firstRefusal [] = 0
 firstRefusal (c ∷ later) = let rest = firstRefusal later in cond (c .1) rest (c .0)
+
+-- the record's checks, with which most calls begin
+unfoldable pub headerRefusal : ℕ → ℕ → ℕ
+headerRefusal vertices longest = firstRefusal ((1, vertices? vertices) ∷ (2, longest? longest) ∷ [])

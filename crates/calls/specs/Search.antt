@@ -13,49 +13,39 @@ use Rattle.model.specs.Replies.{replyOf}
 use Rattle.model.specs.declared.SearchReply.{SearchReply}
 use Rattle.calls.specs.Checks.{vertices?, longest?, ends?, firstRefusal}
 
--- what the call is given: the record's places and k, start and destination, the pattern as keyed, the allowance, leg and work memory
-pub record SearchArgs : Type 0 where
-  pub vertices : ℕ
-  pub longest : ℕ
-  pub start : ℕ
-  pub destination : ℕ
-  pub pattern : List ℕ
-  pub limit : ℕ
-  pub edges : List ℕ
-  pub work : List ℕ
+-- what the call is given: the record's places and k, start and destination, the pattern as keyed, leg memory and work memory
+module _ (vertices longest start destination : ℕ) (pattern edges work : List ℕ) where
+  -- "Plain check 1 2 3 4 10 11."
+  unfoldable pub searchRefusal : ℕ
+  searchRefusal =
+      firstRefusal (
+        (1, vertices? vertices)
+        ∷ (2, longest? longest)
+        ∷ (3, edgeMemory? vertices edges)
+        ∷ (4, leb leastWork (length work))
+        ∷ (10, ends? vertices start destination)
+        ∷ (11, keyed? longest pattern)
+        ∷ []
+      )
 
--- "Plain check 1 2 3 4 10 11."
-unfoldable pub searchRefusal : SearchArgs → ℕ
-searchRefusal a =
-    firstRefusal (
-      (1, vertices? (a .vertices))
-      ∷ (2, longest? (a .longest))
-      ∷ (3, edgeMemory? (a .vertices) (a .edges))
-      ∷ (4, leb leastWork (length (a .work)))
-      ∷ (10, ends? (a .vertices) (a .start) (a .destination))
-      ∷ (11, keyed? (a .longest) (a .pattern))
-      ∷ []
-    )
-
--- the graph that the record and edge memory are
-abbrev pub searchedGraph : SearchArgs → Graph
-searchedGraph a = record { vertices = a .vertices; longest = a .longest; edges = standing (a .edges) }
-
+-- the reply, and work memory afterwards
 pub record Searched : Type 0 where
   pub reply : Reply
   pub work : List ℕ
 
--- Refused: "All lent memory is unchanged." Accepted: the pattern is folded to its minimum repeat, the reply is the levels', and
--- "accepted calls that use work memory leave it zero"
-abbrev pub searchedWith : ℕ → SearchArgs → Searched
-searchedWith zero a =
-    record { reply = levelReply (searchedGraph a) (minRepeat (a .pattern)) (a .start) (a .destination) (a .limit); work = zeroed (a .work) }
-searchedWith (suc n) a = record { reply = Refused (suc n); work = a .work }
+-- Refused: "All lent memory is unchanged." Accepted: the reply of the levels, and "accepted calls that use work memory leave it zero".
+abbrev pub searchedWith : ℕ → Reply → List ℕ → Searched
+searchedWith zero reply work = record { reply = reply; work = zeroed work }
+searchedWith (suc n) reply work = record { reply = Refused (suc n); work = work }
 
-unfoldable pub searchCall : SearchArgs → Searched
-searchCall a = searchedWith (searchRefusal a) a
+-- "Before any question or plain check a pattern is folded to its minimum repeat"; "a number of levels is allowed with each check"
+unfoldable pub searchCall : (vertices longest start destination : ℕ) (pattern : List ℕ) (limit : ℕ) (edges work : List ℕ) → Searched
+searchCall vertices longest start destination pattern limit edges work =
+    let graph : Graph = record { vertices = vertices; longest = longest; edges = standing edges } in
+    let reply = levelReply graph (minRepeat pattern) start destination limit in
+    searchedWith (searchRefusal vertices longest start destination pattern edges work) reply work
 
 -- the contract: reply and work memory are the definition's
-pub record SearchMeets (a : SearchArgs) (r : SearchReply) (work : List ℕ) : Type 0 where
-  pub reply : replyOf r ≡ searchCall a .reply
-  pub work-after : work ≡ searchCall a .work
+pub record SearchMeets (call : Searched) (r : SearchReply) (work : List ℕ) : Type 0 where
+  pub reply : replyOf r ≡ call .reply
+  pub work-after : work ≡ call .work

@@ -9,3 +9,4 @@ pub mod Index
 pub mod Entries
 pub mod Query
 pub mod Edges
+pub mod Replies

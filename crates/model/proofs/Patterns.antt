@@ -10,8 +10,8 @@ use lib.Seq.{take-append-seam}
 use Rattle.model.specs.Lists.{_∈_, same?, keep, from, spread, Sorted, none, next, all?}
 use Rattle.model.specs.Limits.{hubUnit, mostLongest, mostLabel}
 use Rattle.model.specs.Edges.{label?}
-use Rattle.model.specs.Patterns.{times, Keyed, keyed?, MinRepeat, repeatFrom, minRepeat, Pattern, own?, codeFrom, code, words, patterns}
-use Rattle.model.proofs.Tests.{Tests, test-map, test-and, test-le, test-all, test-same, by-test}
+use Rattle.model.specs.Patterns.{times, Keyed, keyed?, MinRepeat, repeatFrom, minRepeat, foldedLength, Pattern, own?, codeFrom, code, words, patterns}
+use Rattle.model.proofs.Tests.{Tests, test-map, test-and, test-le, test-all, test-same, test-true, by-test}
 use Rattle.model.proofs.Lists.{keep-in, keep-out, from-in, from-out, rising-from, spread-in, spread-out, sorted-keep, sorted-imp, sorted-append, sorted-map, sorted-spread}
 
 -- check 11 tests what it should
@@ -142,6 +142,17 @@ repeat-own l h = record {
   least = λ w j e. let (i, q) = min-repeat l h .often in
       min-repeat l h .least w (i * j) (sym (times-times i j w) ∙ ap (times i) e ∙ q);
 }
+
+pub keyed-up : {k m : ℕ} {l : List ℕ} → k ≤ m → Keyed k l → Keyed m l
+keyed-up h p = record { long = p .long; short = omega (arith, p .short); labels = p .labels }
+
+-- what the folding leaf gives of a pattern
+pub folded-length : (l : List ℕ) → Keyed mostLongest l → foldedLength l ≡ length (minRepeat l)
+unfolding foldedLength
+folded-length l p = rw (test-true (test-keyed mostLongest l) p)
+
+pub folded-take : (l : List ℕ) → Keyed mostLongest l → take (foldedLength l) l ≡ minRepeat l
+folded-take l p = ap (λ (n : ℕ). take n l) (folded-length l p) ∙ repeat-front l (p .long)
 
 take-in : (n : ℕ) {x : ℕ} (l : List ℕ) → x ∈ take n l → x ∈ l
 take-in n {x} l m = rw (take-append-drop n l) at (Memᴰ·append-left (drop n l) m)

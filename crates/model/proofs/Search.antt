@@ -1,5 +1,5 @@
 -- Laws of the level search's reply: it is document 01's, it goes on from level to level, and yes and no are right about walks.
-use mathlib.Core.Path.{_≡_, refl, sym, subst}
+use mathlib.Core.Path.{_≡_, refl, sym, ap, subst}
 use mathlib.Core.Logic.{⊎-elim, _≢_}
 use mathlib.Core.Bool.{Bool, true, false}
 use mathlib.Core.List.{List, [], _∷_, List·Memᴰ·not-nil, List·Memᴰ·head}
@@ -12,7 +12,7 @@ use Rattle.model.specs.Lists.{_∈_, mem?, empty?}
 use Rattle.model.specs.Limits.{mostVertices, mostLongest}
 use Rattle.model.specs.Edges.{Graph}
 use Rattle.model.specs.Walks.{Runs}
-use Rattle.model.specs.Levels.{state, Stage, grow, stage, level, Reply, Yes, No, Spent, Refused, replyAt, replyFrom, levelReply, Quiet, Told, found, ended, stopped, isYes?, runs?}
+use Rattle.model.specs.Levels.{state, states, leads?, led?, Stage, grow, stage, level, Reply, Yes, No, Spent, Refused, replyAt, replyFrom, levelReply, Quiet, Told, found, ended, stopped, isYes?, runs?}
 use Rattle.model.proofs.Tests.{Tests, test-mem, test-dec}
 use Rattle.model.proofs.Levels.{state-zero, Met, level-runs, level-all, level-size, fresh-size}
 
@@ -119,3 +119,18 @@ module _ (g : Graph) (l : List ℕ) (small : g .vertices ≤ mostVertices) (full
 
   pub runs-dec : Dec (Runs g l s t)
   runs-dec = test-dec test-runs
+
+-- the longest pattern plays no part in a search
+module _ (vertices : ℕ) (edges l : List ℕ) (t j k : ℕ) where
+  from-as : (n c : ℕ) (st : Stage)
+      → replyFrom (record { vertices = vertices; longest = j; edges = edges }) l t n c st ≡ replyFrom (record { vertices = vertices; longest = k; edges = edges }) l t n c st
+  unfolding replyFrom grow led? leads?
+  from-as zero c st = refl
+  from-as (suc n) c st =
+      let new : Stage = grow (record { vertices = vertices; longest = k; edges = edges }) l st in
+      ap (replyAt (mem? (state t 0) (new .level)) (empty? (new .level)) (suc c)) (from-as n (suc c) new)
+
+  pub reply-as : (s limit : ℕ)
+      → levelReply (record { vertices = vertices; longest = j; edges = edges }) l s t limit ≡ levelReply (record { vertices = vertices; longest = k; edges = edges }) l s t limit
+  unfolding levelReply stage states
+  reply-as s limit = from-as limit 0 _

@@ -1,0 +1,81 @@
+-- Laws of refusals: a check that passes hands on to the next, and one that does not gives its number.
+use mathlib.Core.Path.{_≡_, refl, subst, _∙_}
+use mathlib.Core.Bool.{Bool, true, false, cond}
+use mathlib.Core.List.{List, [], _∷_}
+use Prim.Native.Nat.{ℕ, _≤_, _<_}
+use native.Mathlib.Omega.{arith}
+use Rattle.model.specs.Limits.{mostVertices, mostLongest}
+use Rattle.model.proofs.Tests.{Tests, test-and, test-le, test-lt, test-yields}
+use Rattle.calls.specs.Checks.{vertices?, longest?, ends?, Check, firstRefusal, headerRefusal}
+
+-- how a list of checks comes to its number
+pub data First : List Check → ℕ → Type 0 where
+  none : First [] 0
+  pass : {n m : ℕ} {b : Bool} {later : List Check} → b ≡ true → First later m → First ((n, b) ∷ later) m
+  stop : {n : ℕ} {b : Bool} {later : List Check} → b ≡ false → First ((n, b) ∷ later) n
+
+pub first-is : {l : List Check} {n : ℕ} → First l n → firstRefusal l ≡ n
+unfolding firstRefusal
+first-is none = refl
+first-is (pass e f) = rw e (first-is f)
+first-is (stop e) = rw e
+
+-- ---- the record's checks
+
+record Both (a b : Bool) : Type 0 where
+  first : a ≡ true
+  second : b ≡ true
+
+both-pass : (a b : Bool) → firstRefusal ((1, a) ∷ (2, b) ∷ []) ≡ 0 → Both a b
+unfolding firstRefusal
+both-pass true true e = record { first = refl; second = refl }
+both-pass true false e = absurd (omega arith)
+both-pass false b e = absurd (omega arith)
+
+one-stops : (later : List Check) (a b : Bool) {n : ℕ} → firstRefusal ((1, a) ∷ (2, b) ∷ []) ≡ n → 1 ≤ n → First ((1, a) ∷ (2, b) ∷ later) n
+unfolding firstRefusal
+one-stops later true true e h = absurd (omega arith)
+one-stops later true false e h = subst (First ((1, true) ∷ (2, false) ∷ later)) e (pass refl (stop refl))
+one-stops later false b e h = subst (First ((1, false) ∷ (2, b) ∷ later)) e (stop refl)
+
+module _ (vertices longest : ℕ) where
+  pub header-is : {n : ℕ} → First ((1, vertices? vertices) ∷ (2, longest? longest) ∷ []) n → headerRefusal vertices longest ≡ n
+  unfolding headerRefusal
+  header-is f = first-is f
+
+  -- their number is the call's, or they pass
+  pub header-stop : {later : List Check} {n : ℕ} → headerRefusal vertices longest ≡ n → 1 ≤ n
+      → First ((1, vertices? vertices) ∷ (2, longest? longest) ∷ later) n
+  unfolding headerRefusal
+  header-stop {later} e h = one-stops later (vertices? vertices) (longest? longest) e h
+
+  pub header-pass : {later : List Check} {n : ℕ} → headerRefusal vertices longest ≡ 0 → First later n
+      → First ((1, vertices? vertices) ∷ (2, longest? longest) ∷ later) n
+  unfolding headerRefusal
+  header-pass e f = let p = both-pass (vertices? vertices) (longest? longest) e in pass (p .first) (pass (p .second) f)
+
+-- what they test
+pub test-vertices : (vertices : ℕ) → Tests (vertices? vertices) ((1 ≤ vertices) × (vertices ≤ mostVertices))
+test-vertices vertices = test-and (test-le 1 vertices) (test-le vertices mostVertices)
+
+pub test-longest : (longest : ℕ) → Tests (longest? longest) ((1 ≤ longest) × (longest ≤ mostLongest))
+test-longest longest = test-and (test-le 1 longest) (test-le longest mostLongest)
+
+-- and leave
+pub record Header (vertices longest : ℕ) : Type 0 where
+  pub vertices-least : 1 ≤ vertices
+  pub vertices-most : vertices ≤ mostVertices
+  pub longest-least : 1 ≤ longest
+  pub longest-most : longest ≤ mostLongest
+
+pub header-good : (vertices longest : ℕ) → headerRefusal vertices longest ≡ 0 → Header vertices longest
+unfolding headerRefusal
+header-good vertices longest e =
+    let p = both-pass (vertices? vertices) (longest? longest) e in
+    let v = test-yields (test-vertices vertices) (p .first) in
+    let k = test-yields (test-longest longest) (p .second) in
+    record { vertices-least = v .0; vertices-most = v .1; longest-least = k .0; longest-most = k .1 }
+
+-- start and destination
+pub test-ends : (vertices s t : ℕ) → Tests (ends? vertices s t) ((s < vertices) × (t < vertices))
+test-ends vertices s t = test-and (test-lt s vertices) (test-lt t vertices)

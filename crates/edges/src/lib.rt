@@ -1,0 +1,182 @@
+// Edge memory: the numbers of edges, check 3, lookup, insertion and removal, zeroing, and copies for a change that is tried.
+ghost use mathlib.Core.Path.{_≡_};
+ghost use mathlib.Core.Bool.{Bool};
+ghost use mathlib.Core.List.{_++_};
+ghost use Prim.Native.Nat.{_≤_, _<_};
+ghost use lib.ListN.{length, take, drop};
+ghost use Rattle.model.specs.Lists.{Rising, filled, zeroed};
+ghost use Rattle.model.specs.Edges.{edgeNumber, edge?, zeros?, standing, insertEdge, removeEdge};
+ghost use Rattle.edges.specs.Memory.{scanOf, findOf, Insertable, Removable, Narrow};
+
+// The most slots that edge memory may have (check 3).
+const MOST_EDGES: usize = 1024;
+
+// What check 3 finds: how many edges stand, or that this is no edge memory of the graph.
+pub enum Scanned {
+    Edges(usize),
+    Invalid,
+}
+
+// Where an edge stands, or the slot before which it belongs.
+pub enum Found {
+    At(usize),
+    Before(usize),
+}
+
+pub fn edge_number(from: u32, label: u32, to: u32) -> u32
+    requires { ⌜ (from < 256) × ((label < 16) × (to < 256)) ⌝ }
+    ensures { λ r. ⌜ r ≡ edgeNumber from label to ⌝ }
+{
+    from * 4096 + label * 256 + to
+}
+
+pub fn is_edge(vertices: u32, x: u32) -> bool
+    ensures { λ r. ⌜ r ≡ edge? vertices x ⌝ }
+{
+    if vertices <= x / 4096 {
+        return false;
+    }
+    let label = x / 256 % 16;
+    if label < 1 {
+        return false;
+    }
+    if 8 < label {
+        return false;
+    }
+    x % 256 < vertices
+}
+
+pub fn all_zero(s: &[u32]) -> bool
+    ensures { λ r. ⌜ r ≡ zeros? (now (s .entry)) ⌝ }
+{
+    let mut i = 0;
+    while i < s.len() {
+        if s[i] != 0 {
+            return false;
+        }
+        i += 1;
+    }
+    true
+}
+
+// Check 3, in one pass.
+pub fn scan(vertices: u32, edges: &[u32]) -> Scanned
+    ensures { λ r. ⌜ r ≡ scanOf vertices (now (edges .entry)) ⌝ }
+{
+    if MOST_EDGES < edges.len() {
+        return Scanned::Invalid;
+    }
+    let mut i = 0;
+    let mut prev: u32 = 0;
+    while i < edges.len() {
+        let x = edges[i];
+        if x == 0 {
+            if all_zero(&edges[i..]) {
+                return Scanned::Edges(i);
+            } else {
+                return Scanned::Invalid;
+            }
+        }
+        if x <= prev {
+            return Scanned::Invalid;
+        }
+        if is_edge(vertices, x) {
+            prev = x;
+            i += 1;
+        } else {
+            return Scanned::Invalid;
+        }
+    }
+    Scanned::Edges(i)
+}
+
+// Where an edge stands among the first n, by halving.
+pub fn find(edges: &[u32], n: usize, edge: u32) -> Found
+    requires { ⌜ (n ≤ length (now edges)) × Rising (take n (now edges)) ⌝ }
+    ensures { λ r. ⌜ r ≡ findOf edge (take n (now (edges .entry))) ⌝ }
+{
+    let mut lo = 0;
+    let mut hi = n;
+    while lo < hi {
+        let mid = lo + (hi - lo) / 2;
+        if edges[mid] < edge {
+            lo = mid + 1;
+        } else {
+            hi = mid;
+        }
+    }
+    if lo < n {
+        if edges[lo] == edge {
+            return Found::At(lo);
+        }
+    }
+    Found::Before(lo)
+}
+
+pub fn insert(edges: &mut [u32], n: usize, at: usize, edge: u32)
+    requires { ⌜ Insertable (now edges) n at edge ⌝ }
+    ensures { λ _. ⌜ now (edges .exit) ≡ filled (length (now (edges .entry))) (insertEdge edge (standing (now (edges .entry)))) ⌝ }
+{
+    let mut i = n;
+    while at < i {
+        edges[i] = edges[i - 1];
+        i -= 1;
+    }
+    edges[at] = edge;
+}
+
+pub fn remove(edges: &mut [u32], n: usize, at: usize, edge: u32)
+    requires { ⌜ Removable (now edges) n at edge ⌝ }
+    ensures { λ _. ⌜ now (edges .exit) ≡ filled (length (now (edges .entry))) (removeEdge edge (standing (now (edges .entry)))) ⌝ }
+{
+    let mut i = at;
+    let last = n - 1;
+    while i < last {
+        edges[i] = edges[i + 1];
+        i += 1;
+    }
+    edges[i] = 0;
+}
+
+pub fn clear_edges(edges: &mut [u32])
+    ensures { λ _. ⌜ now (edges .exit) ≡ zeroed (now (edges .entry)) ⌝ }
+{
+    let mut i = 0;
+    while i < edges.len() {
+        edges[i] = 0;
+        i += 1;
+    }
+}
+
+pub fn clear_work(work: &mut [u64])
+    ensures { λ _. ⌜ now (work .exit) ≡ zeroed (now (work .entry)) ⌝ }
+{
+    let mut i = 0;
+    while i < work.len() {
+        work[i] = 0;
+        i += 1;
+    }
+}
+
+// Copies edge memory to the front of a saving place, and back.
+pub fn save(edges: &[u32], saved: &mut [u64])
+    requires { ⌜ length (now edges) ≤ length (now saved) ⌝ }
+    ensures { λ _. ⌜ now (saved .exit) ≡ now (edges .entry) ++ drop (length (now (edges .entry))) (now (saved .entry)) ⌝ }
+{
+    let mut i = 0;
+    while i < edges.len() {
+        saved[i] = edges[i] as u64;
+        i += 1;
+    }
+}
+
+pub fn restore(edges: &mut [u32], saved: &[u64])
+    requires { ⌜ (length (now edges) ≤ length (now saved)) × Narrow (take (length (now edges)) (now saved)) ⌝ }
+    ensures { λ _. ⌜ now (edges .exit) ≡ take (length (now (edges .entry))) (now (saved .entry)) ⌝ }
+{
+    let mut i = 0;
+    while i < edges.len() {
+        edges[i] = saved[i] as u32;
+        i += 1;
+    }
+}
