@@ -1,5 +1,7 @@
 pub mod Marks
 pub mod Grow
-pub mod Run
+pub mod Spreading
 pub mod Leads
 pub mod Stands
+pub mod Front
+pub mod Call

@@ -1,7 +1,7 @@
 // The level search (plain check): levels of states, a state being labels used * 256 + vertex, and the call with its checks.
-
-
-
+use edges::Scanned;
+use model::Answer;
+use model::Refusal;
 use model::SearchReply;
 ghost use mathlib.Core.Path.{_≡_};
 ghost use mathlib.Core.List.{List};
@@ -11,9 +11,9 @@ ghost use Rattle.model.specs.Lists.{Rising, zeroed};
 ghost use Rattle.model.specs.Limits.{mostVertices, leastWork};
 ghost use Rattle.model.specs.Levels.{mostStates, Leads};
 ghost use Rattle.model.specs.Replies.{replyOf};
-
 ghost use Rattle.level_search.specs.Work.{Room, Grown, Under, Skipped, Starts, Ahead, Next, Fit, Short};
-ghost use Rattle.level_search.specs.Run.{Searchable, foundBy};
+ghost use Rattle.calls.specs.Search.{searchCall, SearchMeets};
+ghost use Rattle.level_search.specs.Run.{Searchable, foundBy, Finds, Checks};
 
 // Work memory: a mark for each state, then the queue of states reached.
 const QUEUE: usize = 1024;
@@ -166,4 +166,101 @@ fn levels(
         hi = end;
     }
     SearchReply::Spent(limit)
+}
+
+// The level search with work memory of any content, which it leaves zero.
+pub fn run(
+    vertices: u32,
+    edges: &[u32],
+    pattern: &[u8],
+    s: u32,
+    t: u32,
+    limit: u32,
+    work: &mut [u64],
+) -> SearchReply
+    requires { ⌜ Searchable vertices (now edges) (now pattern) s t × (leastWork ≤ length (now work)) ⌝ }
+    ensures { λ r. ⌜ Finds vertices (now (edges .entry)) (now (pattern .entry)) s t limit (now (work .entry)) r (now (work .exit)) ⌝ }
+{
+    edges::clear_work(&mut work[..WORK]);
+    let reply = levels(vertices, edges, pattern, s, t, limit, &mut work[..WORK]);
+    edges::clear_work(work);
+    reply
+}
+
+// What the call's checks find: the first refusal, or how many edges stand.
+enum Checked {
+    Refused(Refusal),
+    Passed(usize),
+}
+
+// The checks 1 2 3 4 10 11, in that order.
+fn check(
+    vertices: u32,
+    longest: u32,
+    start: u32,
+    destination: u32,
+    pattern: &[u8],
+    edges: &[u32],
+    work: &[u64],
+) -> Checked
+    ensures { λ r. ⌜ Checks vertices longest start destination (now (pattern .entry)) (now (edges .entry)) (now (work .entry)) r ⌝ }
+{
+    let header = checks::check_header(vertices, longest);
+    if let Answer::Refused(refusal) = header {
+        return Checked::Refused(refusal);
+    }
+    let scanned = edges::scan(vertices, edges);
+    let Scanned::Edges(n) = scanned else {
+        return Checked::Refused(Refusal::EdgeMemory);
+    };
+    if work.len() < WORK {
+        return Checked::Refused(Refusal::WorkMemory);
+    }
+    if checks::are_vertices(vertices, start, destination) {
+        if patterns::is_keyed(longest, pattern) {
+            return Checked::Passed(n);
+        }
+        return Checked::Refused(Refusal::QueryPattern);
+    }
+    Checked::Refused(Refusal::QueryEnd)
+}
+
+// The plain check for all inputs. The pattern is folded to its minimum repeat once its length is checked.
+pub fn search(
+    vertices: u32,
+    longest: u32,
+    start: u32,
+    destination: u32,
+    pattern: &[u8],
+    level_limit: u32,
+    edges: &[u32],
+    work: &mut [u64],
+) -> SearchReply
+    ensures { λ r. ⌜ SearchMeets (searchCall vertices longest start destination (now (pattern .entry)) «level_limit» (now (edges .entry)) (now (work .entry))) r (now (work .exit)) ⌝ }
+{
+    let checked = check(
+        vertices,
+        longest,
+        start,
+        destination,
+        pattern,
+        edges,
+        work,
+    );
+    match checked {
+        Checked::Refused(refusal) => SearchReply::Refused(refusal),
+        Checked::Passed(n) => {
+            let folded = patterns::minimum_repeat(pattern);
+            let length = folded.length;
+            run(
+                vertices,
+                &edges[..n],
+                &pattern[..length],
+                start,
+                destination,
+                level_limit,
+                work,
+            )
+        }
+    }
 }

@@ -3,7 +3,7 @@ use Prim.Native.Nat.{_-_, _≤_, _*_, zero-le}
 use native.Mathlib.Omega.{arith}
 use borrow.Author.Needs.{needs}
 use Rattle.level_search.specs.Work.{Under, Starts}
-use Rattle.level_search.proofs.Run.{under-up, under-none, starts-none, starts-set}
+use Rattle.level_search.proofs.Spreading.{under-up, under-none, starts-none, starts-set}
 use Rattle.level_search.proofs.first_slots.Statement.{statement}
 use Rattle.level_search.proofs.first_slots.Tie as tie
 

@@ -4,7 +4,7 @@ use native.Mathlib.Omega.{arith}
 use borrow.Author.Needs.{needs}
 use lib.ListN.{length}
 use Rattle.level_search.specs.Work.{Under}
-use Rattle.level_search.proofs.Run.{under-more}
+use Rattle.level_search.proofs.Spreading.{under-more}
 use Rattle.level_search.proofs.skip.Statement.{statement}
 use Rattle.level_search.proofs.skip.Tie as tie
 

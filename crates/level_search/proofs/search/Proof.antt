@@ -1,0 +1,64 @@
+-- `level_search::search` meets its contract: a refusal leaves work memory alone, and a search is over the standing edges and the minimum repeat.
+use mathlib.Core.Path.{sym}
+use borrow.Author.Needs.{needs}
+use lib.Seq.{length-take-le}
+use Rattle.calls.proofs.Search.{search-refused}
+use Rattle.level_search.specs.Run.{Passes}
+use Rattle.level_search.proofs.Call.{part-edges, part-pattern, searchable, meets}
+use Rattle.level_search.proofs.search.Statement.{statement}
+use Rattle.level_search.proofs.search.Tie as tie
+
+-- all checks have passed
+passed : (c : tie.After-minimum-repeat)
+    → Passes (c .before .before .before .before .before .before .before .before .before .args .vertices) (c .before .before .before .before .before .before .before .before .before .args .longest) (c .before .before .before .before .before .before .before .before .before .args .start) (c .before .before .before .before .before .before .before .before .before .args .destination)
+    (c .before .before .before .before .before .before .before .before .before .args .pattern .now) (c .before .before .before .before .before .before .before .before .before .args .edges .now) (c .before .before .before .before .before .before .before .before .before .args .work .now) (c .before .before .checked2 .given .0 .0)
+passed c = rw (c .before .before .checked2 .given .1) at (c .before .before .before .before .check .ensures)
+
+check-requires : tie.Need-check-requires
+check-requires c κs = search needs
+
+enum-known-checked : tie.Need-enum-known-checked
+enum-known-checked c = search needs
+
+enum-known-checked-2 : tie.Need-enum-known-checked-2
+enum-known-checked-2 c = search needs
+
+minimum-repeat-requires : tie.Need-minimum-repeat-requires
+minimum-repeat-requires c κs = search needs
+
+slice-aggregate-run : tie.Need-slice-aggregate-run
+slice-aggregate-run c = sym (length-take-le _ (c .before .before .before .before .before .before .before .before .before .before .args .edges .now) (part-edges (passed (c .before)) _ (c .before .minimum-repeat .ensures)))
+
+slice-aggregate-run-2 : tie.Need-slice-aggregate-run-2
+slice-aggregate-run-2 c = sym (length-take-le _ (c .before .before .before .before .before .before .before .before .before .before .before .args .pattern .now) (part-pattern (passed (c .before .before)) _ (c .before .before .minimum-repeat .ensures)))
+
+run-requires : tie.Need-run-requires
+run-requires c κs = (searchable (passed (c .before .before .before)) _ (c .before .before .before .minimum-repeat .ensures), passed (c .before .before .before) .room)
+
+same-length : tie.Need-same-length
+same-length c = search needs
+
+returns : tie.Need-returns
+returns c = search-refused _ _ _ _ _ _ _ _ (c .before .checked .given .0 .0) (rw (c .before .checked .given .1) at (c .before .before .before .check .ensures))
+
+same-length-2 : tie.Need-same-length-2
+same-length-2 c = search needs
+
+returns-2 : tie.Need-returns-2
+returns-2 c = meets (passed (c .before .before .before .before .before .before)) _ (c .before .before .before .before .before .before .minimum-repeat .ensures) (c .before .before .run .ensures)
+
+pub search-spec : {M : Type 1} → statement M
+search-spec =
+    tie.close
+    (tie.spec
+    check-requires
+    enum-known-checked
+    enum-known-checked-2
+    minimum-repeat-requires
+    slice-aggregate-run
+    slice-aggregate-run-2
+    run-requires
+    same-length
+    returns
+    same-length-2
+    returns-2)
