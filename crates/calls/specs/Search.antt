@@ -19,13 +19,13 @@ module _ (vertices longest start destination : ℕ) (pattern edges work : List �
   unfoldable pub searchRefusal : ℕ
   searchRefusal =
       firstRefusal (
-        (1, vertices? vertices)
-        ∷ (2, longest? longest)
-        ∷ (3, edgeMemory? vertices edges)
-        ∷ (4, leb leastWork (length work))
-        ∷ (10, ends? vertices start destination)
-        ∷ (11, keyed? longest pattern)
-        ∷ []
+      (1, vertices? vertices)
+      ∷ (2, longest? longest)
+      ∷ (3, edgeMemory? vertices edges)
+      ∷ (4, leb leastWork (length work))
+      ∷ (10, ends? vertices start destination)
+      ∷ (11, keyed? longest pattern)
+      ∷ []
       )
 
 -- the reply, and work memory afterwards

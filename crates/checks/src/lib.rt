@@ -7,6 +7,7 @@ ghost use Rattle.model.specs.Replies.{answerOf};
 ghost use Rattle.calls.specs.Checks.{headerRefusal, ends?};
 
 const MOST_VERTICES: u32 = 256;
+
 const MOST_LONGEST: u32 = 4;
 
 // Checks 1 and 2: vertices 1 to 256, longest pattern 1 to 4.

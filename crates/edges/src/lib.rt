@@ -151,10 +151,10 @@ pub fn clear_edges(edges: &mut [u32])
 pub fn clear_work(work: &mut [u64])
     ensures { λ _. ⌜ now (work .exit) ≡ zeroed (now (work .entry)) ⌝ }
 {
-    let mut i = 0;
-    while i < work.len() {
-        work[i] = 0;
-        i += 1;
+    let mut slot = 0;
+    while slot < work.len() {
+        work[slot] = 0;
+        slot += 1;
     }
 }
 

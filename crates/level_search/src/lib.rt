@@ -17,6 +17,7 @@ ghost use Rattle.level_search.specs.Run.{Searchable, foundBy, Finds, Che
 
 // Work memory: a mark for each state, then the queue of states reached.
 const QUEUE: usize = 1024;
+
 const WORK: usize = 4096;
 
 // The first slot from `from` on whose edge is at least key.
@@ -64,14 +65,7 @@ fn reach(work: &mut [u64], y: usize, tail: usize) -> usize
 }
 
 // Reaches base + to for every edge key + to, to from 0 to 255. No edge before slot `from` is one.
-fn spread(
-    edges: &[u32],
-    from: usize,
-    key: u32,
-    base: usize,
-    work: &mut [u64],
-    tail: usize,
-) -> usize
+fn spread(edges: &[u32], from: usize, key: u32, base: usize, work: &mut [u64], tail: usize) -> usize
     requires { ⌜ Rising (now edges) × Under (now edges) key from ⌝ }
     requires { ⌜ (Room (now work) tail) × ((base + mostVertices ≤ mostStates) × (key + 256 < 2 ^ 32)) ⌝ }
     ensures { λ r. ⌜ Grown (now (work .entry)) tail (now (work .exit)) r (Ahead (now (edges .entry)) (length (now (edges .entry))) key base) ⌝ }
@@ -238,15 +232,7 @@ pub fn search(
 ) -> SearchReply
     ensures { λ r. ⌜ SearchMeets (searchCall vertices longest start destination (now (pattern .entry)) «level_limit» (now (edges .entry)) (now (work .entry))) r (now (work .exit)) ⌝ }
 {
-    let checked = check(
-        vertices,
-        longest,
-        start,
-        destination,
-        pattern,
-        edges,
-        work,
-    );
+    let checked = check(vertices, longest, start, destination, pattern, edges, work);
     match checked {
         Checked::Refused(refusal) => SearchReply::Refused(refusal),
         Checked::Passed(n) => {

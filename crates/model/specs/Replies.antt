@@ -1,12 +1,15 @@
 -- Document 01's numbers and replies for each case of the enums.
 use Prim.Native.Nat.{ℕ}
 use Rattle.model.specs.Levels.{Reply, Yes, No, Spent, Refused}
+use Rattle.model.specs.Query.{Answered, Yes as AnsweredYes, No as AnsweredNo, Refused as AnsweredRefused}
 use Rattle.model.specs.declared.Refusal.{Refusal}
 use Rattle.model.specs.declared.Refusal.the-variants.{Vertices, Longest, EdgeMemory, WorkMemory, EdgeEnd, EdgeLabel, EdgePresent, EdgeAbsent, EdgeSlots, QueryEnd, QueryPattern, IndexMemory, IndexSlots, CardMark, CardVersion, CardEdges, CardOutput}
 use Rattle.model.specs.declared.Answer.{Answer}
 use Rattle.model.specs.declared.Answer.the-variants.{Accepted, Refused as NotAccepted}
 use Rattle.model.specs.declared.SearchReply.{SearchReply}
 use Rattle.model.specs.declared.SearchReply.the-variants.{Yes as SearchYes, No as SearchNo, Spent as SearchSpent, Refused as SearchRefused}
+use Rattle.model.specs.declared.QueryReply.{QueryReply}
+use Rattle.model.specs.declared.QueryReply.the-variants.{Yes as QueryYes, No as QueryNo, Refused as QueryRefused}
 
 -- "Number and condition"
 abbrev pub numberOf : Refusal → ℕ
@@ -39,3 +42,9 @@ replyOf (SearchYes c) = Yes c
 replyOf (SearchNo c) = No c
 replyOf (SearchSpent c) = Spent c
 replyOf (SearchRefused r) = Refused (numberOf r)
+
+-- yes, no, refused n
+abbrev pub answeredOf : QueryReply → Answered
+answeredOf QueryYes = AnsweredYes
+answeredOf QueryNo = AnsweredNo
+answeredOf (QueryRefused r) = AnsweredRefused (numberOf r)

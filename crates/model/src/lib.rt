@@ -40,3 +40,10 @@ pub enum SearchReply {
     Spent(u32),
     Refused(Refusal),
 }
+
+// What a query replies.
+pub enum QueryReply {
+    Yes,
+    No,
+    Refused(Refusal),
+}

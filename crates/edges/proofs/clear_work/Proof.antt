@@ -23,8 +23,8 @@ mul-work c = search needs
 slice-write-work : tie.Need-slice-write-work Inv-loop μ-loop
 slice-write-work c = search needs
 
-add-i : tie.Need-add-i Inv-loop μ-loop
-add-i c = search needs
+add-slot : tie.Need-add-slot Inv-loop μ-loop
+add-slot c = search needs
 
 loop-less : tie.Need-loop-less Inv-loop μ-loop
 loop-less c = search needs
@@ -47,7 +47,7 @@ clear-work-spec =
     loop-holds
     mul-work
     slice-write-work
-    add-i
+    add-slot
     loop-less
     loop-again
     same-length

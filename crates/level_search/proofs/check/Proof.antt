@@ -69,7 +69,7 @@ is-keyed-requires c κs = search needs
 
 returns-4 : tie.Need-returns-4
 unfolding searchRefusal
-returns-4 c = 
+returns-4 c =
     let told = c .before .before .before .before .before in
     let start = c .before .before .before .before .before .before .before .before .before .before .before .before .before .before .before in
     let good = header-good _ _ (header (told .before .before .before .before)) in
@@ -89,14 +89,14 @@ returns-4 c =
 
 returns-5 : tie.Need-returns-5
 unfolding searchRefusal
-returns-5 c = 
+returns-5 c =
     let told = c .before .before .before .before .before in
     let ends = sym (c .before .before .before .are-vertices .ensures) ∙ c .before .before .if2 .taken in
     first-is (header-pass _ _ (header (told .before .before .before .before)) (pass (memory told) (pass (le-leb _ _ (c .before .before .before .before .if1 .left)) (pass ends (stop (sym (c .before .is-keyed .ensures) ∙ c .if3 .left))))))
 
 returns-6 : tie.Need-returns-6
 unfolding searchRefusal
-returns-6 c = 
+returns-6 c =
     let told = c .before .before .before in
     first-is (header-pass _ _ (header (told .before .before .before .before)) (pass (memory told) (pass (le-leb _ _ (c .before .before .if1 .left)) (stop (sym (c .before .are-vertices .ensures) ∙ c .if2 .left)))))
 

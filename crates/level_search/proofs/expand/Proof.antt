@@ -54,11 +54,10 @@ shared-slice-read-spread : tie.Need-shared-slice-read-spread
 shared-slice-read-spread c = search needs
 
 spread-requires : tie.Need-spread-requires
-spread-requires c κs = 
+spread-requires c κs =
     let start = c .before .before .before .before .before .before .before in
     let l = label (c .before .before) in
-    let p = position (c .before .before) in
-    (
+    let p = position (c .before .before) in (
       (start .pre .0 .0, under-up (omega arith) (start .pre .0 .1 .under (start .args .x % 256) (omega arith))),
       (start .pre .1 .0, (omega arith, omega arith)),
     )

@@ -40,8 +40,7 @@ loop-less c = search needs
 loop-again : tie.Need-loop-again Inv-loop μ-loop
 loop-again c =
     let l = c .before .before in
-    let bound = l .before .before .pre in
-    (
+    let bound = l .before .before .pre in (
       omega (arith, c .before .loop-test .taken),
       (
         starts-set (l .loop .v) (c .skip .result) (omega (arith, c .before .loop-test .taken)) (l .loop .inv .1 .0) (c .skip .ensures .under),

@@ -24,7 +24,7 @@ slice-write-work : tie.Need-slice-write-work Inv-loop μ-loop
 slice-write-work c = omega (arith, c .before .before .before .before .pre .1 .0)
 
 loop-holds : tie.Need-loop-holds Inv-loop μ-loop
-loop-holds c = 
+loop-holds c =
     let start = c .before .before .before .before in
     let p = start .pre .0 in
     (built-start _ _ _ _ _ _ (rw (start .pre .1 .1) (stands-start _ _ _ _ _ (omega (arith, p .start, p .vertices-small)) (p .short) (start .pre .1 .0))), refl)
@@ -33,7 +33,7 @@ slice-aggregate-next-level : tie.Need-slice-aggregate-next-level Inv-loop μ-loo
 slice-aggregate-next-level c = search needs
 
 next-level-requires : tie.Need-next-level-requires Inv-loop μ-loop
-next-level-requires c κs = 
+next-level-requires c κs =
     let at = c .before .before .before in
     let p = at .before .before .before .before .before .pre .0 in
     let b = at .loop .inv .0 in
@@ -46,43 +46,43 @@ mul-if1 : tie.Need-mul-if1 Inv-loop μ-loop
 mul-if1 c = omega (arith, c .before .before .before .before .before .before .before .before .before .before .before .pre .0 .vertices-small)
 
 slice-read-if1 : tie.Need-slice-read-if1 Inv-loop μ-loop
-slice-read-if1 c = 
+slice-read-if1 c =
     let done = c .before .before .before in
     let turn = done .before .before .before in
     omega (arith, turn .before .before .before .before .before .before .pre .0, turn .before .loop .inv .0 .stands .room .long, done .next-level .ensures .len)
 
 same-length : tie.Need-same-length Inv-loop μ-loop
-same-length c = 
+same-length c =
     let done = c .before .before .before .before in
     let turn = done .before .before .before in
     done .next-level .ensures .len ∙ turn .before .loop .inv .1 ∙ simp length-set
 
 returns : tie.Need-returns Inv-loop μ-loop
-returns c = 
+returns c =
     let done = c .before .before .before .before in
     let turn = done .before .before .before in
     built-yes _ _ _ _ _ _ (turn .before .before .before .before .before .before .pre .0) (turn .before .loop .inv .0) (turn .loop-test .taken) (done .next-level .ensures) (c .if1 .taken)
 
 same-length-2 : tie.Need-same-length-2 Inv-loop μ-loop
-same-length-2 c = 
+same-length-2 c =
     let done = c .before .before .before .before .before in
     let turn = done .before .before .before in
     done .next-level .ensures .len ∙ turn .before .loop .inv .1 ∙ simp length-set
 
 returns-2 : tie.Need-returns-2 Inv-loop μ-loop
-returns-2 c = 
+returns-2 c =
     let done = c .before .before .before .before .before in
     let turn = done .before .before .before in
     built-no _ _ _ _ _ _ (turn .before .before .before .before .before .before .pre .0) (turn .before .loop .inv .0) (turn .loop-test .taken) (done .next-level .ensures) (c .if2 .taken)
 
 loop-less : tie.Need-loop-less Inv-loop μ-loop
-loop-less c = 
+loop-less c =
     let done = c .before .before .before .before .before in
     let turn = done .before .before .before in
     omega (arith, turn .loop-test .taken)
 
 loop-again : tie.Need-loop-again Inv-loop μ-loop
-loop-again c = 
+loop-again c =
     let done = c .before .before .before .before .before in
     let turn = done .before .before .before in
     (built-on _ _ _ _ _ _ (turn .before .before .before .before .before .before .pre .0) (turn .before .loop .inv .0) (turn .loop-test .taken) (done .next-level .ensures) (c .before .if1 .left) (c .if2 .left), done .next-level .ensures .len ∙ turn .before .loop .inv .1)

@@ -42,7 +42,7 @@ slice-read-x : tie.Need-slice-read-x Inv-loop μ-loop
 slice-read-x c = omega (arith, top (c .before))
 
 expand-requires : tie.Need-expand-requires Inv-loop μ-loop
-expand-requires c κs = 
+expand-requires c κs =
     let turn = c .before .before in
     let pre = turn .before .before .before .before .before .before .pre in
     let inv = turn .before .loop .inv in
@@ -55,10 +55,9 @@ loop-less : tie.Need-loop-less Inv-loop μ-loop
 loop-less c = omega (arith, c .before .before .before .before .before .loop-test .taken)
 
 loop-again : tie.Need-loop-again Inv-loop μ-loop
-loop-again c = 
+loop-again c =
     let turn = c .before .before .before .before .before in
-    let inv = turn .before .loop .inv in
-    (
+    let inv = turn .before .loop .inv in (
       omega (arith, inv .0),
       (omega (arith, turn .loop-test .taken), next-more _ _ _ (inv .0) (inv .1 .1) (rw (same turn) at (c .before .before .expand .ensures))),
     )

@@ -26,7 +26,7 @@ slice-aggregate-levels : tie.Need-slice-aggregate-levels
 slice-aggregate-levels c = sym (front-length (c .before .before .before .before .before .before .before .before .args .work .now) _ (c .before .before .before .before .before .before .before .before .pre .1) (c .before .before .before .clear-work .ensures))
 
 levels-requires : tie.Need-levels-requires
-levels-requires c κs = 
+levels-requires c κs =
     let start = c .before .before .before .before .before .before .before .before in
     let cleared = c .before .before .before .clear-work .ensures in
     (start .pre .0, (le-of-eq (sym (front-length (start .args .work .now) _ (start .pre .1) cleared)), front-zero (start .args .work .now) _ (start .pre .1) cleared))
@@ -38,7 +38,7 @@ same-length : tie.Need-same-length
 same-length c = search needs
 
 returns : tie.Need-returns
-returns c = 
+returns c =
     record {
       reply = c .before .before .before .before .before .before .levels .ensures;
       work-after =
