@@ -13,13 +13,13 @@ use lib.ListN.{length, getD, set, replicate, length-set, length-replicate, getD-
 use lib.Seq.{getD-set-same, getD-set-other}
 use Rattle.model.specs.Lists.{_∈_}
 use Rattle.model.specs.Limits.{mostVertices, leastWork}
-use Rattle.model.specs.Edges.{edge?, toOf}
+use Rattle.model.specs.Edges.{bare, edge?, toOf}
 use Rattle.model.specs.Levels.{vertexOf, mostStates, Leads, stage, level, Reply, Yes, No, Spent, replyFrom, levelReply}
 use Rattle.model.proofs.Levels.{IsState, Fresh, Met, look, Reached, level-zero, level-iff}
 use Rattle.model.proofs.Edges.{edge-to}
 use Rattle.model.proofs.Search.{reply-yes, reply-no, reply-on}
 use Rattle.level_search.specs.Work.{marks, queue, Room, At, Grown, Next, Fit, Short}
-use Rattle.level_search.specs.Run.{Searchable, graphOf, foundBy}
+use Rattle.level_search.specs.Run.{Searchable, foundBy}
 use Rattle.level_search.proofs.Marks.{marks-far, marks-zero}
 use Rattle.level_search.proofs.Leads.{leads-fit}
 
@@ -28,56 +28,56 @@ module _ (vertices : ℕ) (edges l : List ℕ) (s : ℕ) where
     pub room : Room w hi
     pub ends : lo ≤ hi
     pub fit : Fit l w lo hi
-    pub in-level : (k : ℕ) → lo ≤ k → k < hi → queue w k ∈ level (graphOf vertices edges) l s c
-    pub all-level : (y : ℕ) → y ∈ level (graphOf vertices edges) l s c → At w lo hi y
-    pub in-met : (y : ℕ) → y < mostStates → getD w y 0 ≡ 1 → Met (graphOf vertices edges) l s c y
-    pub all-met : (y : ℕ) → Met (graphOf vertices edges) l s c y → (y < mostStates) × (getD w y 0 ≡ 1)
+    pub in-level : (k : ℕ) → lo ≤ k → k < hi → queue w k ∈ level (bare vertices edges) l s c
+    pub all-level : (y : ℕ) → y ∈ level (bare vertices edges) l s c → At w lo hi y
+    pub in-met : (y : ℕ) → y < mostStates → getD w y 0 ≡ 1 → Met (bare vertices edges) l s c y
+    pub all-met : (y : ℕ) → Met (bare vertices edges) l s c y → (y < mostStates) × (getD w y 0 ≡ 1)
 
   -- what is met by level c is met by the next
-  met-later : {c y : ℕ} → Met (graphOf vertices edges) l s c y → Met (graphOf vertices edges) l s (suc c) y
+  met-later : {c y : ℕ} → Met (bare vertices edges) l s c y → Met (bare vertices edges) l s (suc c) y
   met-later m = record { at = m .at; first = m .first; last = omega (arith, m .last); stands = m .stands }
 
-  pub met-now : {c y : ℕ} → y ∈ level (graphOf vertices edges) l s (suc c) → Met (graphOf vertices edges) l s (suc c) y
+  pub met-now : {c y : ℕ} → y ∈ level (bare vertices edges) l s (suc c) → Met (bare vertices edges) l s (suc c) y
   met-now {c} m = record { at = suc c; first = omega arith; last = le-refl (suc c); stands = m }
 
   module _ {t : ℕ} (p : Searchable vertices edges l s t) {c : ℕ} {w : List ℕ} {lo hi : ℕ} (a : Stands c w lo hi) {w′ : List ℕ} {end : ℕ} (g : Grown w hi w′ end (Next edges l w lo hi)) where
-    next-state : (y : ℕ) → Next edges l w lo hi y → IsState (graphOf vertices edges) l y
+    next-state : (y : ℕ) → Next edges l w lo hi y → IsState (bare vertices edges) l y
     next-state y n = record {
       bound = leads-fit edges l (queue w (n .k)) y (p .short) (n .led);
       vertex = edge-to vertices (vertexOf (queue w (n .k))) (getD l (queue w (n .k) / mostVertices) 0) (vertexOf y) (omega arith) (p .valid _ (n .led .stands));
     }
 
     -- a state that is led to and fresh is in the next level
-    next-level : (y : ℕ) → Next edges l w lo hi y → Fresh (graphOf vertices edges) l s c y → y ∈ level (graphOf vertices edges) l s (suc c)
-    next-level y n f = level-iff (graphOf vertices edges) l s c y .1
+    next-level : (y : ℕ) → Next edges l w lo hi y → Fresh (bare vertices edges) l s c y → y ∈ level (bare vertices edges) l s (suc c)
+    next-level y n f = level-iff (bare vertices edges) l s c y .1
         (record { is-state = next-state y n; fresh = f; source = (queue w (n .k), a .in-level (n .k) (n .from) (n .to), n .led) })
 
     -- and a state of the next level is led to
-    level-next : (y : ℕ) → Reached (graphOf vertices edges) l s c y → Next edges l w lo hi y
+    level-next : (y : ℕ) → Reached (bare vertices edges) l s c y → Next edges l w lo hi y
     level-next y r =
         let (x, m, led) = r .source in
         let q = a .all-level x m in
         record { k = q .k; from = q .from; to = q .to; led = subst (λ (z : ℕ). Leads edges l z y) (sym (q .is)) led }
 
-    level-small : {y : ℕ} → Reached (graphOf vertices edges) l s c y → y < mostStates
+    level-small : {y : ℕ} → Reached (bare vertices edges) l s c y → y < mostStates
     level-small r = omega (arith, r .is-state .bound, p .short .most)
 
-    queued : (k : ℕ) → hi ≤ k → k < end → queue w′ k ∈ level (graphOf vertices edges) l s (suc c)
+    queued : (k : ℕ) → hi ≤ k → k < end → queue w′ k ∈ level (bare vertices edges) l s (suc c)
     queued k h b = next-level _ (g .by k h b) (λ j f e m. g .new k h b (a .all-met _ (record { at = j; first = f; last = e; stands = m }) .1))
 
     pub stands-next : Stands (suc c) w′ hi end
     stands-next = record {
       room = g .room (a .room);
       ends = g .more;
-      fit = λ k h b. level-iff (graphOf vertices edges) l s c _ .0 (queued k h b) .is-state .bound;
+      fit = λ k h b. level-iff (bare vertices edges) l s c _ .0 (queued k h b) .is-state .bound;
       in-level = queued;
       all-level = λ y m.
-          let r = level-iff (graphOf vertices edges) l s c y .0 m in
+          let r = level-iff (bare vertices edges) l s c y .0 m in
           g .found y (level-small r) (level-next y r) (λ e. let d = a .in-met y (level-small r) e in r .fresh (d .at) (d .first) (d .last) (d .stands));
       in-met = λ y h e. ⊎-elim (λ m. met-later (a .in-met y h m))
-          (λ n. ⊎-elim (λ f. met-now (next-level y n f)) met-later (look (graphOf vertices edges) l s c y)) (g .only y h e);
+          (λ n. ⊎-elim (λ f. met-now (next-level y n f)) met-later (look (bare vertices edges) l s c y)) (g .only y h e);
       all-met = λ y m. ⊎-elim
-          (λ e. let r = level-iff (graphOf vertices edges) l s c y .0 (rw e at (m .stands)) in (level-small r, g .marked y (level-small r) (level-next y r)))
+          (λ e. let r = level-iff (bare vertices edges) l s c y .0 (rw e at (m .stands)) in (level-small r, g .marked y (level-small r) (level-next y r)))
           (λ b. let (h, e) = a .all-met y (record { at = m .at; first = m .first; last = le-of-suc-le-suc b; stands = m .stands }) in (h, g .still y h e))
           (eq-or-lt-of-le (m .last));
     }
@@ -91,8 +91,8 @@ module _ (vertices : ℕ) (edges l : List ℕ) (s : ℕ) where
     };
     ends = zero-le;
     fit = λ k p q. omega (arith, queue-is k q, sh .least);
-    in-level = λ k p q. level-zero (graphOf vertices edges) l s _ .1 (queue-is k q);
-    all-level = λ y m. record { k = 0; from = zero-le; to = omega arith; is = queue-is 0 (omega arith) ∙ sym (level-zero (graphOf vertices edges) l s y .0 m) };
+    in-level = λ k p q. level-zero (bare vertices edges) l s _ .1 (queue-is k q);
+    all-level = λ y m. record { k = 0; from = zero-le; to = omega arith; is = queue-is 0 (omega arith) ∙ sym (level-zero (bare vertices edges) l s y .0 m) };
     in-met = λ y p e. absurd (omega (arith, mark-is y p));
     all-met = λ y m. absurd (omega (arith, m .first, m .last));
   }
@@ -113,32 +113,32 @@ module _ (vertices : ℕ) (edges l : List ℕ) (s : ℕ) where
     pub record Built (w : List ℕ) (lo hi c : ℕ) : Type 0 where
       pub within : c ≤ limit
       pub stands : Stands c w lo hi
-      pub unseen : Met (graphOf vertices edges) l s c t → ⊥
-      pub so-far : foundBy vertices edges l s t limit ≡ replyFrom (graphOf vertices edges) l t (limit - c) c (stage (graphOf vertices edges) l s c)
+      pub unseen : Met (bare vertices edges) l s c t → ⊥
+      pub so-far : foundBy vertices edges l s t limit ≡ replyFrom (bare vertices edges) l t (limit - c) c (stage (bare vertices edges) l s c)
 
     module _ (p : Searchable vertices edges l s t) {w : List ℕ} {lo hi c : ℕ} (b : Built w lo hi c) (more : c < limit) {w′ : List ℕ} {end : ℕ} (g : Grown w hi w′ end (Next edges l w lo hi)) where
       now-at : Stands (suc c) w′ hi end
       now-at = stands-next p (b .stands) g
 
       -- one level more
-      so-far′ : foundBy vertices edges l s t limit ≡ replyFrom (graphOf vertices edges) l t (suc (limit - (c + 1))) c (stage (graphOf vertices edges) l s c)
+      so-far′ : foundBy vertices edges l s t limit ≡ replyFrom (bare vertices edges) l t (suc (limit - (c + 1))) c (stage (bare vertices edges) l s c)
       so-far′ = let left : limit - c ≡ suc (limit - (c + 1)) = omega arith in
-          b .so-far ∙ ap (λ (n : ℕ). replyFrom (graphOf vertices edges) l t n c (stage (graphOf vertices edges) l s c)) left
+          b .so-far ∙ ap (λ (n : ℕ). replyFrom (bare vertices edges) l t n c (stage (bare vertices edges) l s c)) left
 
       -- (t, 0) is marked where the new level has it
-      in-new : getD w′ t 0 ≡ 1 → t ∈ level (graphOf vertices edges) l s (suc c)
+      in-new : getD w′ t 0 ≡ 1 → t ∈ level (bare vertices edges) l s (suc c)
       in-new e =
           let m = now-at .in-met t (omega (arith, p .vertices-small, p .destination)) e in
           ⊎-elim (λ q. rw q at (m .stands)) (λ q. absurd (b .unseen (record { at = m .at; first = m .first; last = le-of-suc-le-suc q; stands = m .stands }))) (eq-or-lt-of-le (m .last))
 
-      unseen′ : (getD w′ t 0 ≡ 1 → ⊥) → Met (graphOf vertices edges) l s (suc c) t → ⊥
+      unseen′ : (getD w′ t 0 ≡ 1 → ⊥) → Met (bare vertices edges) l s (suc c) t → ⊥
       unseen′ d m = d (now-at .all-met t m .1)
 
       pub built-yes : getD w′ t 0 ≡ 1 → Yes (c + 1) ≡ foundBy vertices edges l s t limit
-      built-yes e = ap Yes (add-one c) ∙ sym (so-far′ ∙ reply-yes (graphOf vertices edges) l s t _ c (in-new e))
+      built-yes e = ap Yes (add-one c) ∙ sym (so-far′ ∙ reply-yes (bare vertices edges) l s t _ c (in-new e))
 
       pub built-no : end ≡ hi → No (c + 1) ≡ foundBy vertices edges l s t limit
-      built-no e = ap No (add-one c) ∙ sym (so-far′ ∙ reply-no (graphOf vertices edges) l s t _ c (λ y m. let q = now-at .all-level y m in omega (arith, q .from, q .to)))
+      built-no e = ap No (add-one c) ∙ sym (so-far′ ∙ reply-no (bare vertices edges) l s t _ c (λ y m. let q = now-at .all-level y m in omega (arith, q .from, q .to)))
 
       pub built-on : (getD w′ t 0 ≡ 1 → ⊥) → (end ≡ hi → ⊥) → Built w′ hi end (c + 1)
       built-on d e = record {
@@ -146,8 +146,8 @@ module _ (vertices : ℕ) (edges l : List ℕ) (s : ℕ) where
         stands = rw add-one now-at;
         unseen = rw add-one (unseen′ d);
         so-far = so-far′
-            ∙ reply-on (graphOf vertices edges) l s t _ c (λ m. unseen′ d (met-now m)) (now-at .in-level hi (le-refl hi) (omega (arith, g .more)))
-            ∙ ap (λ (n : ℕ). replyFrom (graphOf vertices edges) l t (limit - (c + 1)) n (stage (graphOf vertices edges) l s n)) (sym (add-one c));
+            ∙ reply-on (bare vertices edges) l s t _ c (λ m. unseen′ d (met-now m)) (now-at .in-level hi (le-refl hi) (omega (arith, g .more)))
+            ∙ ap (λ (n : ℕ). replyFrom (bare vertices edges) l t (limit - (c + 1)) n (stage (bare vertices edges) l s n)) (sym (add-one c));
       }
 
     pub built-spent : {w : List ℕ} {lo hi c : ℕ} → Built w lo hi c → limit ≤ c → Spent limit ≡ foundBy vertices edges l s t limit
@@ -155,7 +155,7 @@ module _ (vertices : ℕ) (edges l : List ℕ) (s : ℕ) where
     built-spent {c = c} b h =
         let none : limit - c ≡ 0 = omega arith in
         let same : limit ≡ c = omega (arith, b .within) in
-        ap Spent same ∙ sym (b .so-far ∙ ap (λ (n : ℕ). replyFrom (graphOf vertices edges) l t n c (stage (graphOf vertices edges) l s c)) none)
+        ap Spent same ∙ sym (b .so-far ∙ ap (λ (n : ℕ). replyFrom (bare vertices edges) l t n c (stage (bare vertices edges) l s c)) none)
 
     pub built-start : {w : List ℕ} → Stands 0 w 0 1 → Built w 0 1 0
     unfolding levelReply

@@ -6,7 +6,7 @@ use Prim.Native.Nat.{ℕ, _≤_, _<_}
 use lib.ListN.{length}
 use Rattle.model.specs.Lists.{_∈_, Rising, zeroed}
 use Rattle.model.specs.Limits.{mostVertices, mostLongest, leastWork}
-use Rattle.model.specs.Edges.{Graph, edge?}
+use Rattle.model.specs.Edges.{bare, Graph, edge?}
 use Rattle.model.specs.Patterns.{Keyed}
 use Rattle.model.specs.Levels.{Reply, levelReply}
 use Rattle.model.specs.Replies.{numberOf, replyOf}
@@ -27,12 +27,8 @@ pub record Searchable (vertices : ℕ) (edges l : List ℕ) (s t : ℕ) : Type 0
   pub start : s < vertices
   pub destination : t < vertices
 
--- the graph that is searched. Its longest pattern plays no part
-abbrev pub graphOf : ℕ → List ℕ → Graph
-graphOf vertices edges = record { vertices = vertices; longest = 0; edges = edges }
-
 abbrev pub foundBy : ℕ → List ℕ → List ℕ → ℕ → ℕ → ℕ → Reply
-foundBy vertices edges l s t limit = levelReply (graphOf vertices edges) l s t limit
+foundBy vertices edges l s t limit = levelReply (bare vertices edges) l s t limit
 
 -- the search's contract: the reply is the levels', and work memory ends zero
 pub record Finds (vertices : ℕ) (edges l : List ℕ) (s t limit : ℕ) (work : List ℕ) (r : SearchReply) (work′ : List ℕ) : Type 0 where

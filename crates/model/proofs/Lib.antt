@@ -10,3 +10,4 @@ pub mod Entries
 pub mod Query
 pub mod Edges
 pub mod Replies
+pub mod Ranks

@@ -13,6 +13,10 @@ pub record Graph : Type 0 where
   pub longest : ℕ
   pub edges : List ℕ
 
+-- a graph of which only vertices and edges matter: its longest pattern plays no part
+abbrev pub bare : ℕ → List ℕ → Graph
+bare vertices edges = record { vertices = vertices; longest = 0; edges = edges }
+
 -- what checks 1 and 2 leave
 pub record Small (g : Graph) : Type 0 where
   pub vertices-small : g .vertices ≤ mostVertices

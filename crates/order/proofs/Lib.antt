@@ -1,0 +1,4 @@
+pub mod Tally
+pub mod Ranking
+pub mod Weighing
+pub mod Placing
