@@ -4,3 +4,4 @@ pub mod Halving
 pub mod Mix
 pub mod Copying
 pub mod Shift
+pub mod Slots

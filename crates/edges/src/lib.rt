@@ -4,8 +4,10 @@ ghost use mathlib.Core.Bool.{Bool};
 ghost use mathlib.Core.List.{_++_};
 ghost use Prim.Native.Nat.{_≤_, _<_};
 ghost use lib.ListN.{length, take, drop};
+ghost use Rattle.model.specs.Limits.{mostVertices};
 ghost use Rattle.model.specs.Lists.{Rising, filled, zeroed};
 ghost use Rattle.model.specs.Edges.{edgeNumber, edge?, zeros?, standing, insertEdge, removeEdge};
+ghost use Rattle.edges.specs.Slots.{Under, Skipped, Starts};
 ghost use Rattle.edges.specs.Memory.{scanOf, findOf, Insertable, Removable, Narrow};
 
 // The most slots that edge memory may have (check 3).
@@ -111,6 +113,37 @@ pub fn find(edges: &[u32], n: usize, edge: u32) -> Found
         }
     }
     Found::Before(lo)
+}
+
+// The first slot from `from` on whose edge is at least key.
+pub fn skip(edges: &[u32], from: usize, key: u32) -> usize
+    requires { ⌜ Under (now edges) key from ⌝ }
+    ensures { λ r. ⌜ Skipped (now (edges .entry)) key r ⌝ }
+{
+    let mut i = from;
+    while i < edges.len() {
+        if key <= edges[i] {
+            return i;
+        }
+        i += 1;
+    }
+    i
+}
+
+// For each vertex, the slot where its edges start, so that a search looks at a vertex's own edges only.
+pub fn first_slots(vertices: u32, edges: &[u32]) -> [usize; 256]
+    requires { ⌜ vertices ≤ mostVertices ⌝ }
+    ensures { λ r. ⌜ Starts (now (edges .entry)) r ⌝ }
+{
+    let mut slots = [0usize; 256];
+    let mut i = 0;
+    let mut v: u32 = 0;
+    while v < vertices {
+        i = skip(edges, i, v * 4096);
+        slots[v as usize] = i;
+        v += 1;
+    }
+    slots
 }
 
 pub fn insert(edges: &mut [u32], n: usize, at: usize, edge: u32)

@@ -1,50 +1,16 @@
--- The first slots of edges, and the states that a run of edges leads to, from none of the edges to all of them.
-use mathlib.Core.Path.{_≡_, ap, _∙_}
+-- The states that a run of edges leads to, from none of the edges to all of them.
+use mathlib.Core.Path.{_≡_, ap}
 use mathlib.Core.List.{List}
 use mathlib.Core.Logic.{_⊎_, inl, inr, ⊎-elim}
-use Prim.Native.Nat.{ℕ, _+_, _-_, _*_, _≤_, _<_}
-use native.Mathlib.Nat.{eq-or-lt-of-le, le-of-suc-le-suc}
+use Prim.Native.Nat.{ℕ, _+_, _-_, _≤_, _<_}
 use native.Mathlib.Omega.{arith}
-use native.Mathlib.Decide.{decLt, ℕ-discrete}
-use lib.ListN.{length, getD, set, replicate, length-set, length-replicate, getD-replicate}
-use lib.Seq.{getD-set-same, getD-set-other}
-use borrow.Author.Count.{below-more}
+use native.Mathlib.Decide.{decLt}
+use lib.ListN.{length, getD}
 use Rattle.model.specs.Lists.{Rising}
-use Rattle.model.specs.Limits.{mostVertices}
 use Rattle.model.proofs.Lists.{rising-le}
-use Rattle.level_search.specs.Work.{Under, Skipped, Starts, Ahead, Grown}
+use Rattle.edges.specs.Slots.{Under}
+use Rattle.level_search.specs.Work.{Ahead, Grown}
 use Rattle.level_search.proofs.Grow.{grown-none, grown-then, grown-as}
-
-module _ {edges : List ℕ} {key n : ℕ} where
-  pub under-more : Under edges key n → n < length edges → getD edges n 0 < key → Under edges key (n + 1)
-  under-more u h k = record { most = omega arith; below = below-more (λ j. getD edges j 0 < key) n (u .below) k }
-
-  -- a higher key leaves as much under it
-  pub under-up : {key′ : ℕ} → key ≤ key′ → Under edges key n → Under edges key′ n
-  under-up h u = record { most = u .most; below = λ j k. omega (arith, u .below j k) }
-
-pub under-none : (edges : List ℕ) (key : ℕ) → Under edges key 0
-under-none edges key = record { most = omega arith; below = λ j h. absurd (omega arith) }
-
--- from the first such slot on, rising edges are at least key
-pub skipped-least : {edges : List ℕ} {key n : ℕ} → Rising edges → Skipped edges key n → (i : ℕ) → n ≤ i → i < length edges → key ≤ getD edges i 0
-skipped-least s k i h b = omega (arith, k .reached (omega arith), rising-le s _ i h b)
-
--- the table where the slots of the vertices below v are written
-pub starts-none : (edges : List ℕ) → Starts edges (replicate mostVertices 0)
-starts-none edges = record {
-  long = length-replicate {A = ℕ} mostVertices 0;
-  under = λ v h. rw (getD-replicate {A = ℕ} mostVertices v 0 0 h) (under-none edges (v * 4096));
-}
-
-pub starts-set : {edges slots : List ℕ} (v i : ℕ) → v < mostVertices → Starts edges slots → Under edges (v * 4096) i → Starts edges (set slots v i)
-starts-set {edges} {slots} v i h st u = record {
-  long = length-set slots v i ∙ st .long;
-  under = λ x k. elim (ℕ-discrete x v) [
-    | yes e ↦ rw (e, getD-set-same slots v i 0 (omega (arith, st .long))) u
-    | no d ↦ rw (getD-set-other slots v x i 0 d) (st .under x k)
-  ];
-}
 
 module _ (edges : List ℕ) (key base : ℕ) where
   no-run : {i : ℕ} → Under edges key i → (y : ℕ) → Ahead edges i key base y → ⊥

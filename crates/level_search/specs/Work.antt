@@ -53,21 +53,6 @@ pub record Grown (w : List ℕ) (n : ℕ) (w′ : List ℕ) (n′ : ℕ) (P : �
   pub by : (k : ℕ) → n ≤ k → k < n′ → P (queue w′ k)
   pub found : (y : ℕ) → y < mostStates → P y → (getD w y 0 ≡ 1 → ⊥) → At w′ n n′ y
 
--- the numbers before slot n are below key
-pub record Under (edges : List ℕ) (key n : ℕ) : Type 0 where
-  pub most : n ≤ length edges
-  pub below : (j : ℕ) → j < n → getD edges j 0 < key
-
--- n is the first slot whose number is at least key, among slots that no number below key follows
-pub record Skipped (edges : List ℕ) (key n : ℕ) : Type 0 where
-  pub under : Under edges key n
-  pub reached : n < length edges → key ≤ getD edges n 0
-
--- slot v of the table: no edge before that slot starts at v or above
-pub record Starts (edges slots : List ℕ) : Type 0 where
-  pub long : length slots ≡ mostVertices
-  pub under : (v : ℕ) → v < mostVertices → Under edges (v * 4096) (getD slots v 0)
-
 -- y is base + to for an edge key + to among the first i, to below 256
 pub record Ahead (edges : List ℕ) (i key base y : ℕ) : Type 0 where
   pub j : ℕ

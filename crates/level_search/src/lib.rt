@@ -11,7 +11,8 @@ ghost use Rattle.model.specs.Lists.{Rising, zeroed};
 ghost use Rattle.model.specs.Limits.{mostVertices, leastWork};
 ghost use Rattle.model.specs.Levels.{mostStates, Leads};
 ghost use Rattle.model.specs.Replies.{replyOf};
-ghost use Rattle.level_search.specs.Work.{Room, Grown, Under, Skipped, Starts, Ahead, Next, Fit, Short};
+ghost use Rattle.level_search.specs.Work.{Room, Grown, Ahead, Next, Fit, Short};
+ghost use Rattle.edges.specs.Slots.{Under, Starts};
 ghost use Rattle.calls.specs.Search.{searchCall, SearchMeets};
 ghost use Rattle.level_search.specs.Run.{Searchable, foundBy, Finds, Checks};
 
@@ -19,37 +20,6 @@ ghost use Rattle.level_search.specs.Run.{Searchable, foundBy, Finds, Che
 const QUEUE: usize = 1024;
 
 const WORK: usize = 4096;
-
-// The first slot from `from` on whose edge is at least key.
-fn skip(edges: &[u32], from: usize, key: u32) -> usize
-    requires { ⌜ Under (now edges) key from ⌝ }
-    ensures { λ r. ⌜ Skipped (now (edges .entry)) key r ⌝ }
-{
-    let mut i = from;
-    while i < edges.len() {
-        if key <= edges[i] {
-            return i;
-        }
-        i += 1;
-    }
-    i
-}
-
-// For each vertex, the slot where its edges start, so that a search looks at a vertex's own edges only.
-fn first_slots(vertices: u32, edges: &[u32]) -> [usize; 256]
-    requires { ⌜ vertices ≤ mostVertices ⌝ }
-    ensures { λ r. ⌜ Starts (now (edges .entry)) r ⌝ }
-{
-    let mut slots = [0usize; 256];
-    let mut i = 0;
-    let mut v: u32 = 0;
-    while v < vertices {
-        i = skip(edges, i, v * 4096);
-        slots[v as usize] = i;
-        v += 1;
-    }
-    slots
-}
 
 // Marks the state y and queues it, if it is not marked yet.
 fn reach(work: &mut [u64], y: usize, tail: usize) -> usize
@@ -71,7 +41,7 @@ fn spread(edges: &[u32], from: usize, key: u32, base: usize, work: &mut [u64], t
     ensures { λ r. ⌜ Grown (now (work .entry)) tail (now (work .exit)) r (Ahead (now (edges .entry)) (length (now (edges .entry))) key base) ⌝ }
 {
     let end = key + 256;
-    let mut i = skip(edges, from, key);
+    let mut i = edges::skip(edges, from, key);
     let mut n = tail;
     while i < edges.len() {
         let edge = edges[i];
@@ -142,7 +112,7 @@ fn levels(
     requires { ⌜ (leastWork ≤ length (now work)) × (now work ≡ zeroed (now work)) ⌝ }
     ensures { λ r. ⌜ replyOf r ≡ foundBy vertices (now (edges .entry)) (now (pattern .entry)) s t limit ⌝ }
 {
-    let slots = first_slots(vertices, edges);
+    let slots = edges::first_slots(vertices, edges);
     work[QUEUE] = s as u64;
     let mut lo = 0;
     let mut hi = 1;

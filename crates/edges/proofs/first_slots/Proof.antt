@@ -1,11 +1,11 @@
--- `level_search::first_slots` meets its contract: the slots of the vertices below v are written, and no edge before slot i starts at v or above.
+-- `edges::first_slots` meets its contract: the slots of the vertices below v are written, and no edge before slot i starts at v or above.
 use Prim.Native.Nat.{_-_, _≤_, _*_, zero-le}
 use native.Mathlib.Omega.{arith}
 use borrow.Author.Needs.{needs}
-use Rattle.level_search.specs.Work.{Under, Starts}
-use Rattle.level_search.proofs.Spreading.{under-up, under-none, starts-none, starts-set}
-use Rattle.level_search.proofs.first_slots.Statement.{statement}
-use Rattle.level_search.proofs.first_slots.Tie as tie
+use Rattle.edges.specs.Slots.{Under, Starts}
+use Rattle.edges.proofs.Slots.{under-up, under-none, starts-none, starts-set}
+use Rattle.edges.proofs.first_slots.Statement.{statement}
+use Rattle.edges.proofs.first_slots.Tie as tie
 
 abbrev Inv-loop : tie.InvT-loop
 Inv-loop vertices edges slots₀ i₀ v₀ slots i v = (v ≤ vertices) × (Starts edges slots × Under edges (v * 4096) i)

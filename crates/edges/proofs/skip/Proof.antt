@@ -1,12 +1,12 @@
--- `level_search::skip` meets its contract: the edges passed are below the key.
+-- `edges::skip` meets its contract: the edges passed are below the key.
 use Prim.Native.Nat.{_-_}
 use native.Mathlib.Omega.{arith}
 use borrow.Author.Needs.{needs}
 use lib.ListN.{length}
-use Rattle.level_search.specs.Work.{Under}
-use Rattle.level_search.proofs.Spreading.{under-more}
-use Rattle.level_search.proofs.skip.Statement.{statement}
-use Rattle.level_search.proofs.skip.Tie as tie
+use Rattle.edges.specs.Slots.{Under}
+use Rattle.edges.proofs.Slots.{under-more}
+use Rattle.edges.proofs.skip.Statement.{statement}
+use Rattle.edges.proofs.skip.Tie as tie
 
 abbrev Inv-loop : tie.InvT-loop
 Inv-loop edges from key i₀ i = Under edges key i
