@@ -11,3 +11,6 @@ pub mod Query
 pub mod Edges
 pub mod Replies
 pub mod Ranks
+pub mod Hubs
+pub mod Suffixes
+pub mod Renumber

@@ -1,0 +1,4 @@
+pub mod Bits
+pub mod Writes
+pub mod Passed
+pub mod Rows

@@ -1,0 +1,36 @@
+-- `rows::join` meets its contract.
+use borrow.Author.Needs.{needs}
+use Rattle.rows.proofs.Writes.{join-is}
+use Rattle.rows.proofs.join.Statement.{statement}
+use Rattle.rows.proofs.join.Tie as tie
+
+load-requires : tie.Need-load-requires
+load-requires c κs = search needs
+
+load-requires-2 : tie.Need-load-requires-2
+load-requires-2 c κs = search needs
+
+either-requires : tie.Need-either-requires
+either-requires c κs = search needs
+
+store-requires : tie.Need-store-requires
+store-requires c κs = search needs
+
+same-length : tie.Need-same-length
+same-length c = search needs
+
+returns : tie.Need-returns
+returns c =
+    let written = c .before .before in
+    let paired = written .before .before in
+    let second = paired .before in
+    let first = second .before .before in
+    join-is
+    (first .before .before .before .pre)
+    (first .load .ensures)
+    (second .load2 .ensures)
+    (paired .either .ensures)
+    (written .store .ensures)
+
+pub join-spec : {M : Type 1} → statement M
+join-spec = tie.close (tie.spec load-requires load-requires-2 either-requires store-requires same-length returns)

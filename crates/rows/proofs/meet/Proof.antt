@@ -1,0 +1,36 @@
+-- `rows::meet` meets its contract.
+use borrow.Author.Needs.{needs}
+use Rattle.rows.proofs.Writes.{meet-is}
+use Rattle.rows.proofs.meet.Statement.{statement}
+use Rattle.rows.proofs.meet.Tie as tie
+
+load-requires : tie.Need-load-requires
+load-requires c κs = search needs
+
+load-requires-2 : tie.Need-load-requires-2
+load-requires-2 c κs = search needs
+
+both-requires : tie.Need-both-requires
+both-requires c κs = search needs
+
+store-requires : tie.Need-store-requires
+store-requires c κs = search needs
+
+same-length : tie.Need-same-length
+same-length c = search needs
+
+returns : tie.Need-returns
+returns c =
+    let written = c .before .before in
+    let paired = written .before .before in
+    let second = paired .before in
+    let first = second .before .before in
+    meet-is
+    (first .before .before .before .pre)
+    (first .load .ensures)
+    (second .load2 .ensures)
+    (paired .both .ensures)
+    (written .store .ensures)
+
+pub meet-spec : {M : Type 1} → statement M
+meet-spec = tie.close (tie.spec load-requires load-requires-2 both-requires store-requires same-length returns)

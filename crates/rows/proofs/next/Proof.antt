@@ -1,0 +1,82 @@
+-- `rows::next` meets its contract. The invariant: row r has no vertex from p up to q.
+use Prim.Native.Nat.{_+_, _-_, _*_, _/_}
+use native.Mathlib.Omega.{arith}
+use Rattle.model.specs.Limits.{mostVertices}
+use Rattle.rows.proofs.Passed.{Passed, passed-none, passed-number, passed-found, passed-all}
+use Rattle.rows.proofs.next.Statement.{statement}
+use Rattle.rows.proofs.next.Tie as tie
+
+abbrev Inv-loop : tie.InvT-loop
+Inv-loop w r p q₀ q = Passed w r p q
+
+abbrev μ-loop : tie.MeasureT-loop
+μ-loop w r p q₀ q = mostVertices - q
+
+loop-holds : tie.Need-loop-holds Inv-loop μ-loop
+loop-holds c = passed-none _ _ _ (c .pre .1)
+
+mul-x : tie.Need-mul-x Inv-loop μ-loop
+mul-x c = omega arith
+
+add-x : tie.Need-add-x Inv-loop μ-loop
+add-x c = omega arith
+
+mul-x-2 : tie.Need-mul-x-2 Inv-loop μ-loop
+mul-x-2 c = omega arith
+
+shared-slice-read-x : tie.Need-shared-slice-read-x Inv-loop μ-loop
+shared-slice-read-x c = omega arith
+
+shr-x : tie.Need-shr-x Inv-loop μ-loop
+shr-x c = omega arith
+
+returns : tie.Need-returns Inv-loop μ-loop
+returns c =
+    let start = c .before .before .before in
+    passed-found
+    (start .loop .inv)
+    (c .before .before .loop-test .taken)
+    (c .if1 .taken)
+    (omega (arith, c .before .shared-slice-known .given (start .before .args .r * 4 + start .loop .q / 64)))
+
+cast-result : tie.Need-cast-result Inv-loop μ-loop
+cast-result c = omega (arith, returns c .high)
+
+add-result : tie.Need-add-result Inv-loop μ-loop
+add-result c = omega (arith, returns c .high)
+
+mul-q : tie.Need-mul-q Inv-loop μ-loop
+mul-q c = omega arith
+
+add-q : tie.Need-add-q Inv-loop μ-loop
+add-q c = omega arith
+
+loop-less : tie.Need-loop-less Inv-loop μ-loop
+loop-less c = omega arith
+
+loop-again : tie.Need-loop-again Inv-loop μ-loop
+loop-again c = passed-number (c .before .before .before .loop .inv) (c .before .before .loop-test .taken) (c .if1 .left)
+
+returns-2 : tie.Need-returns-2 Inv-loop μ-loop
+returns-2 c = passed-all (c .before .loop .inv) (c .loop-test .left)
+
+pub next-spec : {M : Type 1} → statement M
+next-spec =
+    tie.close
+    (tie.spec
+    Inv-loop
+    μ-loop
+    loop-holds
+    mul-x
+    add-x
+    mul-x-2
+    shared-slice-read-x
+    shr-x
+    cast-result
+    add-result
+    returns
+    mul-q
+    add-q
+    loop-less
+    loop-again
+    returns-2)
