@@ -14,3 +14,4 @@ pub mod Ranks
 pub mod Hubs
 pub mod Suffixes
 pub mod Renumber
+pub mod Counting

@@ -115,16 +115,18 @@ module _ (n k : ℕ) (order edges edges′ : List ℕ) (names : Names n order) (
     pub entry-there : {x : ℕ} → IsEntry g order x → (y : ℕ) × IsEntry h (upTo n) y × (x ≡ translate order y)
     entry-there (IsEntry.out s t l q a i) =
         let hs = rank-small names (q .from) in
-        let ht = rank-small names (q .to) in
-        (outEntry (r s) (r t) l,
-        IsEntry.out (r s) (r t) l (record { from = hs; to = ht; pattern = q .pattern }) (earliest-there (q .from) (q .to) (q .to) a) refl,
-        i ∙ sym (translate-entry order 0 (r s) (r t) (code l) (bound hs) (bound ht) (code-below (small .longest-small) (q .pattern .keyed)) ∙ ap₂ (λ (x y : ℕ). entryOf 0 x y (code l)) (same (q .from)) (same (q .to))))
+        let ht = rank-small names (q .to) in (
+          outEntry (r s) (r t) l,
+          IsEntry.out (r s) (r t) l (record { from = hs; to = ht; pattern = q .pattern }) (earliest-there (q .from) (q .to) (q .to) a) refl,
+          i ∙ sym (translate-entry order 0 (r s) (r t) (code l) (bound hs) (bound ht) (code-below (small .longest-small) (q .pattern .keyed)) ∙ ap₂ (λ (x y : ℕ). entryOf 0 x y (code l)) (same (q .from)) (same (q .to))),
+        )
     entry-there (IsEntry.into s t l q a d i) =
         let hs = rank-small names (q .from) in
-        let ht = rank-small names (q .to) in
-        (inEntry (r t) (r s) l,
-        IsEntry.into (r s) (r t) l (record { from = hs; to = ht; pattern = q .pattern }) (earliest-there (q .from) (q .to) (q .from) a) (λ z. d (sym (same (q .from)) ∙ ap o z ∙ same (q .to))) refl,
-        i ∙ sym (translate-entry order 1 (r t) (r s) (code l) (bound ht) (bound hs) (code-below (small .longest-small) (q .pattern .keyed)) ∙ ap₂ (λ (x y : ℕ). entryOf 1 x y (code l)) (same (q .to)) (same (q .from))))
+        let ht = rank-small names (q .to) in (
+          inEntry (r t) (r s) l,
+          IsEntry.into (r s) (r t) l (record { from = hs; to = ht; pattern = q .pattern }) (earliest-there (q .from) (q .to) (q .from) a) (λ z. d (sym (same (q .from)) ∙ ap o z ∙ same (q .to))) refl,
+          i ∙ sym (translate-entry order 1 (r t) (r s) (code l) (bound ht) (bound hs) (code-below (small .longest-small) (q .pattern .keyed)) ∙ ap₂ (λ (x y : ℕ). entryOf 1 x y (code l)) (same (q .to)) (same (q .from))),
+        )
 
     pub entry-back : {y : ℕ} → IsEntry h (upTo n) y → IsEntry g order (translate order y)
     entry-back (IsEntry.out s t l q a i) =

@@ -120,8 +120,12 @@ module _ {k : ℕ} {F : List ℕ → ℕ → Type 0} (one : (l m : List ℕ) (e 
   pub branches-apart : (n e : ℕ) → Some n (Branch k F w) e → Branch k F w n e → ⊥
   branches-apart n e s p =
       let a = s .holds in
-      omega (arith, s .small, before-same (a .front ++ (a .label ∷ [])) (p .front ++ (p .label ∷ [])) (suc (s .which)) (suc n) w
-      (append-assoc (a .front) (a .label ∷ []) (suc (s .which) ∷ w) ∙ one _ _ e (a .within) (p .within) ∙ sym (append-assoc (p .front) (p .label ∷ []) (suc n ∷ w))))
+      omega (
+        arith,
+        s .small,
+        before-same (a .front ++ (a .label ∷ [])) (p .front ++ (p .label ∷ [])) (suc (s .which)) (suc n) w
+            (append-assoc (a .front) (a .label ∷ []) (suc (s .which) ∷ w) ∙ one _ _ e (a .within) (p .within) ∙ sym (append-assoc (p .front) (p .label ∷ []) (suc n ∷ w))),
+      )
 
   pub parts-apart : (n m e : ℕ) → Some n (Leaf k F w) e → Some m (Branch k F w) e → ⊥
   parts-apart n m e s t =

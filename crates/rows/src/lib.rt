@@ -9,13 +9,21 @@ ghost use Rattle.rows.specs.Four.{without, paired, loaded, stored};
 
 // The rooms of work memory below 4,096, as row numbers (specs/Room.antt says what each is for).
 pub const PARENT: usize = 256;
+
 pub const CHILDREN: usize = 768;
+
 pub const ROOT: usize = 816;
+
 pub const TEMP: usize = 817;
+
 pub const OPEN: usize = 824;
+
 pub const TODO: usize = 825;
+
 pub const PICKED: usize = 826;
+
 pub const ENDS: usize = 827;
+
 pub const GATHERED: usize = 828;
 
 // The first of the 1,024 numbers that edge memory is saved in.

@@ -1,0 +1,5 @@
+pub mod Plus
+pub mod Sums
+pub mod Apart
+pub mod Looked
+pub mod Upto
