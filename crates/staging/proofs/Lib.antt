@@ -1,0 +1,4 @@
+pub mod Adding
+pub mod Picking
+pub mod Emitting
+pub mod Hubbing
