@@ -1,0 +1,5 @@
+pub mod Trails
+pub mod Kept
+pub mod Runs
+pub mod Spelling
+pub mod Branching

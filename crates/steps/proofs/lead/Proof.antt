@@ -1,0 +1,107 @@
+-- `steps::lead` meets its contract: row r has gained what the edges of the run before slot i lead to.
+use mathlib.Core.Path.{_≡_}
+use Prim.Native.Nat.{_-_}
+use native.Mathlib.Omega.{arith}
+use lib.ListN.{length}
+use Rattle.edges.proofs.Slots.{under-up}
+use Rattle.rows.proofs.Rows.{has-kept}
+use Rattle.steps.proofs.Runs.{Running, run-none, run-low, run-more, run-all, lead-all}
+use Rattle.steps.proofs.lead.Statement.{statement}
+use Rattle.steps.proofs.lead.Tie as tie
+
+abbrev Inv-loop : tie.InvT-loop
+Inv-loop edges slots v label w₀ r key end i₀ w i = Running edges key r (λ b t. t ≡ b) w₀ w i
+
+abbrev μ-loop : tie.MeasureT-loop
+μ-loop edges slots v label w₀ r key end i₀ w i = length edges - i
+
+cast-key : tie.Need-cast-key Inv-loop μ-loop
+cast-key c = omega arith
+
+mul-key : tie.Need-mul-key Inv-loop μ-loop
+mul-key c = omega arith
+
+mul-key-2 : tie.Need-mul-key-2 Inv-loop μ-loop
+mul-key-2 c = omega arith
+
+add-key : tie.Need-add-key Inv-loop μ-loop
+add-key c = omega arith
+
+add-end : tie.Need-add-end Inv-loop μ-loop
+add-end c = omega arith
+
+mul-skip : tie.Need-mul-skip Inv-loop μ-loop
+mul-skip c = omega arith
+
+shared-slice-read-skip : tie.Need-shared-slice-read-skip Inv-loop μ-loop
+shared-slice-read-skip c = omega (arith, c .before .before .before .before .pre .0 .starts .long)
+
+skip-requires : tie.Need-skip-requires Inv-loop μ-loop
+skip-requires c κs = under-up (omega arith) (c .before .before .before .before .pre .0 .starts .under _ (omega arith))
+
+loop-holds : tie.Need-loop-holds Inv-loop μ-loop
+loop-holds c = run-none (c .before .before .before .before .before .pre .0 .edged .rises) (c .skip .ensures)
+
+mul-x : tie.Need-mul-x Inv-loop μ-loop
+mul-x c = omega arith
+
+shared-slice-read-x : tie.Need-shared-slice-read-x Inv-loop μ-loop
+shared-slice-read-x c = omega arith
+
+same-length : tie.Need-same-length Inv-loop μ-loop
+same-length c = c .before .before .before .loop .inv .gains .len
+
+returns : tie.Need-returns Inv-loop μ-loop
+returns c = lead-all (run-all (c .before .before .before .loop .inv) (c .before .before .before .before .before .before .before .before .before .pre .0 .edged .rises) (λ _. c .if1 .taken))
+
+sub-mark : tie.Need-sub-mark Inv-loop μ-loop
+sub-mark c = run-low (c .before .before .before .before .loop .inv) (c .before .before .before .loop-test .taken)
+
+cast-mark : tie.Need-cast-mark Inv-loop μ-loop
+cast-mark c = omega (arith, sub-mark c)
+
+mark-requires : tie.Need-mark-requires Inv-loop μ-loop
+mark-requires c κs = (has-kept (c .before .before .before .before .loop .inv .gains) (c .before .before .before .before .before .before .before .before .before .before .pre .1 .1 .1), omega (arith, sub-mark c, c .before .if1 .left))
+
+add-i : tie.Need-add-i Inv-loop μ-loop
+add-i c = omega arith
+
+loop-less : tie.Need-loop-less Inv-loop μ-loop
+loop-less c = omega arith
+
+loop-again : tie.Need-loop-again Inv-loop μ-loop
+loop-again c = run-more (c .before .before .before .before .before .before .before .loop .inv) (c .before .before .before .before .before .before .loop-test .taken) (c .before .before .before .before .if1 .left) (c .before .before .mark .ensures)
+
+same-length-2 : tie.Need-same-length-2 Inv-loop μ-loop
+same-length-2 c = c .before .loop .inv .gains .len
+
+returns-2 : tie.Need-returns-2 Inv-loop μ-loop
+returns-2 c = lead-all (run-all (c .before .loop .inv) (c .before .before .before .before .before .before .before .pre .0 .edged .rises) (λ l. absurd (omega arith)))
+
+pub lead-spec : {M : Type 1} → statement M
+lead-spec =
+    tie.close
+    (tie.spec
+    Inv-loop
+    μ-loop
+    cast-key
+    mul-key
+    mul-key-2
+    add-key
+    add-end
+    mul-skip
+    shared-slice-read-skip
+    skip-requires
+    loop-holds
+    mul-x
+    shared-slice-read-x
+    same-length
+    returns
+    sub-mark
+    cast-mark
+    mark-requires
+    add-i
+    loop-less
+    loop-again
+    same-length-2
+    returns-2)
