@@ -15,3 +15,6 @@ pub mod Hubs
 pub mod Suffixes
 pub mod Renumber
 pub mod Counting
+pub mod Memory
+pub mod Zeros
+pub mod IndexMemory

@@ -2,14 +2,14 @@
 -- owner and hub put back.
 use mathlib.Core.Path.{_≡_, refl, sym, ap, ap₂, _∙_}
 use mathlib.Core.Logic.{_⊎_, inl, inr, _≢_}
-use mathlib.Core.List.{List}
+use mathlib.Core.List.{List, List·Memᴰ·head, List·Memᴰ·tail}
 use Prim.Native.Nat.{ℕ, _+_, _*_, _/_, _%_, _≤_, _<_}
 use native.Mathlib.Omega.{arith}
 use lib.ListN.{getD}
 use Rattle.model.specs.Lists.{_∈_, upTo}
-use Rattle.model.specs.Limits.{hubUnit, ownerUnit, sideUnit, mostVertices}
+use Rattle.model.specs.Limits.{hubUnit, ownerUnit, sideUnit, mostVertices, mostLabel}
 use Rattle.model.specs.Edges.{Graph, Small, edgeNumber}
-use Rattle.model.specs.Patterns.{code}
+use Rattle.model.specs.Patterns.{Keyed, code}
 use Rattle.model.specs.Walks.{Spells, here, edge, Runs, once, more, Stop, Between}
 use Rattle.model.specs.Order.{rank, Names}
 use Rattle.model.specs.Entries.{Earliest, entryOf, outEntry, inEntry, Asked, IsEntry}
@@ -19,10 +19,10 @@ use Rattle.model.proofs.Patterns.{code-below}
 use Rattle.model.proofs.Ranks.{rank-at, rank-small, vertex-small, at-rank}
 use Rattle.model.proofs.Hubs.{rank-own}
 
--- the edges, with both ends replaced by their ranks
+-- the edges, with both ends replaced by their ranks. (With a label of 16 or more, an edge number would have a second reading.)
 pub record Renumbers (n : ℕ) (order edges edges′ : List ℕ) : Type 0 where
-  pub there : (a c b : ℕ) → a < n → b < n → edgeNumber a c b ∈ edges → edgeNumber (rank order a) c (rank order b) ∈ edges′
-  pub back : (i c j : ℕ) → i < n → j < n → edgeNumber i c j ∈ edges′ → edgeNumber (getD order i 0) c (getD order j 0) ∈ edges
+  pub there : (a c b : ℕ) → a < n → c ≤ mostLabel → b < n → edgeNumber a c b ∈ edges → edgeNumber (rank order a) c (rank order b) ∈ edges′
+  pub back : (i c j : ℕ) → i < n → c ≤ mostLabel → j < n → edgeNumber i c j ∈ edges′ → edgeNumber (getD order i 0) c (getD order j 0) ∈ edges
 
 -- an entry of the renumbered graph with its owner and hub put back
 abbrev pub translate : List ℕ → ℕ → ℕ
@@ -50,24 +50,29 @@ module _ (n k : ℕ) (order edges edges′ : List ℕ) (names : Names n order) (
   abbrev o : ℕ → ℕ
   o i = getD order i 0
 
-  spells-there : {a b : ℕ} {w : List ℕ} → Spells g a w b → Spells h (r a) w (r b)
-  spells-there here = here
-  spells-there (edge {a = a} {c = c} {b = b} d p) =
-      edge (record { from = rank-small names (d .from); to = rank-small names (d .to); stands = e .there a c b (d .from) (d .to) (d .stands) }) (spells-there p)
+  spells-there : {a b : ℕ} {w : List ℕ} → ((c : ℕ) → c ∈ w → c ≤ mostLabel) → Spells g a w b → Spells h (r a) w (r b)
+  spells-there f here = here
+  spells-there f (edge {a = a} {c = c} {b = b} d p) =
+      edge (record { from = rank-small names (d .from); to = rank-small names (d .to); stands = e .there a c b (d .from) (f c (List·Memᴰ·head refl)) (d .to) (d .stands) })
+      (spells-there (λ x m. f x (List·Memᴰ·tail m)) p)
 
-  spells-back : {i j : ℕ} {w : List ℕ} → Spells h i w j → Spells g (o i) w (o j)
-  spells-back here = here
-  spells-back (edge {a = i} {c = c} {b = j} d p) =
-      edge (record { from = vertex-small names i (d .from); to = vertex-small names j (d .to); stands = e .back i c j (d .from) (d .to) (d .stands) }) (spells-back p)
+  spells-back : {i j : ℕ} {w : List ℕ} → ((c : ℕ) → c ∈ w → c ≤ mostLabel) → Spells h i w j → Spells g (o i) w (o j)
+  spells-back f here = here
+  spells-back f (edge {a = i} {c = c} {b = j} d p) =
+      edge (record { from = vertex-small names i (d .from); to = vertex-small names j (d .to); stands = e .back i c j (d .from) (f c (List·Memᴰ·head refl)) (d .to) (d .stands) })
+      (spells-back (λ x m. f x (List·Memᴰ·tail m)) p)
 
-  module _ {l : List ℕ} where
+  module _ {l : List ℕ} (keyed : Keyed k l) where
+    labels : (c : ℕ) → c ∈ l → c ≤ mostLabel
+    labels c m = keyed .labels c m .1
+
     runs-there : {a b : ℕ} → Runs g l a b → Runs h l (r a) (r b)
-    runs-there (once p) = once (spells-there p)
-    runs-there (more p q) = more (spells-there p) (runs-there q)
+    runs-there (once p) = once (spells-there labels p)
+    runs-there (more p q) = more (spells-there labels p) (runs-there q)
 
     runs-back : {i j : ℕ} → Runs h l i j → Runs g l (o i) (o j)
-    runs-back (once p) = once (spells-back p)
-    runs-back (more p q) = more (spells-back p) (runs-back q)
+    runs-back (once p) = once (spells-back labels p)
+    runs-back (more p q) = more (spells-back labels p) (runs-back q)
 
     between-there : {s t u : ℕ} → Between g l s t u → Between h l (r s) (r t) (r u)
     between-there (inl q) = inl (ap r q)
@@ -117,22 +122,22 @@ module _ (n k : ℕ) (order edges edges′ : List ℕ) (names : Names n order) (
         let hs = rank-small names (q .from) in
         let ht = rank-small names (q .to) in (
           outEntry (r s) (r t) l,
-          IsEntry.out (r s) (r t) l (record { from = hs; to = ht; pattern = q .pattern }) (earliest-there (q .from) (q .to) (q .to) a) refl,
+          IsEntry.out (r s) (r t) l (record { from = hs; to = ht; pattern = q .pattern }) (earliest-there (q .pattern .keyed) (q .from) (q .to) (q .to) a) refl,
           i ∙ sym (translate-entry order 0 (r s) (r t) (code l) (bound hs) (bound ht) (code-below (small .longest-small) (q .pattern .keyed)) ∙ ap₂ (λ (x y : ℕ). entryOf 0 x y (code l)) (same (q .from)) (same (q .to))),
         )
     entry-there (IsEntry.into s t l q a d i) =
         let hs = rank-small names (q .from) in
         let ht = rank-small names (q .to) in (
           inEntry (r t) (r s) l,
-          IsEntry.into (r s) (r t) l (record { from = hs; to = ht; pattern = q .pattern }) (earliest-there (q .from) (q .to) (q .from) a) (λ z. d (sym (same (q .from)) ∙ ap o z ∙ same (q .to))) refl,
+          IsEntry.into (r s) (r t) l (record { from = hs; to = ht; pattern = q .pattern }) (earliest-there (q .pattern .keyed) (q .from) (q .to) (q .from) a) (λ z. d (sym (same (q .from)) ∙ ap o z ∙ same (q .to))) refl,
           i ∙ sym (translate-entry order 1 (r t) (r s) (code l) (bound ht) (bound hs) (code-below (small .longest-small) (q .pattern .keyed)) ∙ ap₂ (λ (x y : ℕ). entryOf 1 x y (code l)) (same (q .to)) (same (q .from))),
         )
 
     pub entry-back : {y : ℕ} → IsEntry h (upTo n) y → IsEntry g order (translate order y)
     entry-back (IsEntry.out s t l q a i) =
-        IsEntry.out (o s) (o t) l (record { from = vertex-small names s (q .from); to = vertex-small names t (q .to); pattern = q .pattern }) (earliest-back (q .from) (q .to) (q .to) a)
+        IsEntry.out (o s) (o t) l (record { from = vertex-small names s (q .from); to = vertex-small names t (q .to); pattern = q .pattern }) (earliest-back (q .pattern .keyed) (q .from) (q .to) (q .to) a)
         (ap (translate order) i ∙ translate-entry order 0 s t (code l) (bound (q .from)) (bound (q .to)) (code-below (small .longest-small) (q .pattern .keyed)))
     entry-back (IsEntry.into s t l q a d i) =
-        IsEntry.into (o s) (o t) l (record { from = vertex-small names s (q .from); to = vertex-small names t (q .to); pattern = q .pattern }) (earliest-back (q .from) (q .to) (q .from) a)
+        IsEntry.into (o s) (o t) l (record { from = vertex-small names s (q .from); to = vertex-small names t (q .to); pattern = q .pattern }) (earliest-back (q .pattern .keyed) (q .from) (q .to) (q .from) a)
         (λ z. d (sym (rank-at names s (q .from)) ∙ ap r z ∙ rank-at names t (q .to)))
         (ap (translate order) i ∙ translate-entry order 1 t s (code l) (bound (q .to)) (bound (q .from)) (code-below (small .longest-small) (q .pattern .keyed)))

@@ -13,7 +13,7 @@ use Rattle.model.proofs.Lists.{getD-in, in-getD}
 use Rattle.rows.specs.Rows.{On, Becomes}
 use Rattle.steps.specs.Steps.{Keeps, Among, Branched}
 use Rattle.steps.specs.Stages.{Row, Wiped}
-use Rattle.steps.proofs.Kept.{keeps-none, keeps-then, keeps-becomes, keeps-cell, keeps-row, row-as, becomes-row}
+use Rattle.steps.proofs.Kept.{among-at, keeps-none, keeps-then, keeps-becomes, keeps-cell, keeps-row, row-as, becomes-row}
 use Rattle.steps.proofs.Runs.{Some, some-more}
 
 -- the edge x leads from a with label c into row r
@@ -28,15 +28,12 @@ pub record Branching (edges w : List ℕ) (starts base : ℕ) (w′ : List ℕ) 
   pub keeps : Keeps w w′ (Among base 8)
   pub rows : (c : ℕ) → c < 8 → Row w′ (base + c) (λ a. Some edges i (Into w a (suc c) starts))
 
-among : (base c : ℕ) → c < 8 → Among base 8 (base + c)
-among base c h = record { least = omega arith; most = omega arith }
-
 module _ {edges w : List ℕ} {starts base : ℕ} {w′ : List ℕ} where
   pub branch-none : Wiped w w′ base 8 → Branching edges w′ starts base w′ 0
   branch-none e = record {
     most = omega arith;
     keeps = keeps-none;
-    rows = λ c h. record { only = λ a k o. absurd (e .none (base + c) a (among base c h) k o); all = λ a k x. absurd (omega (arith, x .early)) };
+    rows = λ c h. record { only = λ a k o. absurd (e .none (base + c) a (among-at c h) k o); all = λ a k x. absurd (omega (arith, x .early)) };
   }
 
   module _ {i : ℕ} (apart : Among base 8 starts → ⊥) (h : i < length edges) (g : Branching edges w starts base w′ i) where

@@ -12,6 +12,9 @@ use Rattle.rows.proofs.Rows.{same-row}
 use Rattle.steps.specs.Steps.{Keeps, Among}
 use Rattle.steps.specs.Stages.{Row, Wiped}
 
+pub among-at : {base n : ℕ} (c : ℕ) → c < n → Among base n (base + c)
+among-at c h = record { least = omega arith; most = omega arith }
+
 pub keeps-none : {w : List ℕ} {R : ℕ → Type 0} → Keeps w w R
 keeps-none = record { len = refl; same = λ k n. refl }
 
@@ -54,15 +57,12 @@ wiped-none = record { keeps = keeps-none; none = λ r j a. absurd (omega (arith,
 
 pub wiped-more : {w w′ w″ : List ℕ} {base n : ℕ} → Wiped w w′ base n → Becomes w′ w″ (base + n) (λ _. ⊥) → Wiped w w″ base (n + 1)
 wiped-more {w} {w′} {w″} {base} {n} h b = record {
-  keeps = keeps-then (keeps-as (λ r a. wider r (a .least) (omega (arith, a .most))) (h .keeps)) (keeps-becomes (wider (base + n) (omega arith) (omega arith)) b);
+  keeps = keeps-then (keeps-as (λ r a. record { least = a .least; most = omega (arith, a .most) }) (h .keeps)) (keeps-becomes (among-at n (omega arith)) b);
   none = λ r j a l e. elim (ℕ-discrete r (base + n)) [
     | yes q ↦ b .only j l (rw q at e)
     | no q ↦ h .none r j (record { least = a .least; most = omega (arith, a .most) }) l (sym (keeps-cell (keeps-becomes {R = λ k. k ≡ base + n} refl b) r q j l) ∙ e)
   ];
 }
-  where
-    wider : (r : ℕ) → base ≤ r → r < base + (n + 1) → Among base (n + 1) r
-    wider r l m = record { least = l; most = m }
 
 -- ---- a row that gains vertices
 

@@ -16,16 +16,13 @@ use Rattle.rows.specs.Room.{parentRows, tempRows}
 use Rattle.steps.specs.Steps.{Trail, Keeps, Among, Sourced, Parented}
 use Rattle.steps.specs.Stages.{Row, Wiped, Follows, Spelt}
 use Rattle.steps.proofs.Trails.{trail-none, trail-edge, trail-join, trail-cut, trail-to}
-use Rattle.steps.proofs.Kept.{keeps-none, keeps-as, keeps-then, keeps-becomes, keeps-cell, keeps-row, row-as, becomes-row, gains-all}
+use Rattle.steps.proofs.Kept.{among-at, keeps-none, keeps-as, keeps-then, keeps-becomes, keeps-cell, keeps-row, row-as, becomes-row, gains-all}
 
 -- after i labels the vertices reached from s stand in row temp + i
 pub record Along (edges l : List ℕ) (s : ℕ) (w w′ : List ℕ) (i : ℕ) : Type 0 where
   pub most : i ≤ length l
   pub keeps : Keeps w w′ (Among tempRows 7)
   pub row : Row w′ (tempRows + i) (Trail edges s (take i l))
-
-temp : (i : ℕ) → i ≤ 6 → Among tempRows 7 (tempRows + i)
-temp i h = record { least = omega arith; most = omega arith }
 
 pub along-none : {edges l w w′ w″ : List ℕ} {s : ℕ} → Becomes w w′ tempRows (λ _. ⊥) → Becomes w′ w″ tempRows (λ t. On w′ tempRows t ⊎ (t ≡ s)) → Along edges l s w″ w″ 0
 along-none e m = record { most = omega arith; keeps = keeps-none; row = row-as (λ t _. (λ q. rw q Trail.here, λ p. sym (trail-none p))) (becomes-row (gains-all e m)) }
@@ -35,7 +32,7 @@ module _ {edges l : List ℕ} {s : ℕ} {w w′ : List ℕ} {i : ℕ} (g : Along
       → Along edges l s w w″ (i + 1)
   along-more {w″} hs six h b = record {
     most = omega arith;
-    keeps = keeps-then (g .keeps) (keeps-becomes (rw next-row (temp (i + 1) (omega arith))) b);
+    keeps = keeps-then (g .keeps) (keeps-becomes (rw next-row (among-at (i + 1) (omega arith))) b);
     row = subst (λ (r : ℕ). Row w″ r (Trail edges s (take (i + 1) l))) next-row (rw longer (row-as (λ t k. (into t k, back t)) (becomes-row b)));
   }
     where
@@ -69,7 +66,7 @@ module _ {edges l : List ℕ} {s : ℕ} {w w′ : List ℕ} {i : ℕ} (g : Along
       whole = take-all i l h
 
       first : Among tempRows 7 tempRows
-      first = record { least = omega arith; most = omega arith }
+      first = among-at 0 (omega arith)
 
 -- ---- the parent's rows
 
@@ -79,15 +76,12 @@ pub record Filling (edges l : List ℕ) (starts : ℕ) (w w′ : List ℕ) (p : 
   pub sources : (a t : ℕ) → a < mostVertices → Trail edges a l t → On w′ starts a
   pub rows : (a : ℕ) → a < mostVertices → Row w′ (parentRows + a) (λ t. (a < p) × Trail edges a l t)
 
-parent : (a : ℕ) → a < mostVertices → Among parentRows mostVertices (parentRows + a)
-parent a h = record { least = omega arith; most = omega arith }
-
 module _ {edges l w w′ : List ℕ} {starts : ℕ} where
   pub filling-none : Sourced edges l w starts → Wiped w w′ parentRows mostVertices → Filling edges l starts w′ w′ 0
   filling-none s e = record {
     keeps = keeps-none;
     sources = λ a t h p. keeps-cell (e .keeps) starts (λ x. omega (arith, x .most, s .least)) a h ∙ s .all a t h p;
-    rows = λ a h. record { only = λ t k o. absurd (e .none (parentRows + a) t (parent a h) k o); all = λ t k x. absurd (omega arith) };
+    rows = λ a h. record { only = λ t k o. absurd (e .none (parentRows + a) t (among-at a h) k o); all = λ t k x. absurd (omega arith) };
   }
 
   module _ {p : ℕ} (g : Filling edges l starts w w′ p) where
@@ -104,7 +98,7 @@ module _ {edges l w w′ : List ℕ} {starts : ℕ} where
 
     pub filling-more : {w₀ w″ : List ℕ} → Sourced edges l w₀ starts → p < mostVertices → Spelt edges l w′ w″ (parentRows + p) p → Filling edges l starts w w″ (p + 1)
     filling-more s hp b = record {
-      keeps = keeps-then (g .keeps) (keeps-as (λ r. ⊎-elim (λ e. inl (rw e (parent p hp))) inr) (b .keeps));
+      keeps = keeps-then (g .keeps) (keeps-as (λ r. ⊎-elim (λ e. inl (rw e (among-at p hp))) inr) (b .keeps));
       sources = λ a t h x. keeps-cell (b .keeps) starts (⊎-elim (λ e. omega (arith, s .least)) (λ e. omega (arith, e .least, s .most))) a h ∙ g .sources a t h x;
       rows = λ a h. elim (ℕ-discrete a p) [
         | yes e ↦ rw e (row-as (λ t _. (λ x. (omega arith, x), λ x. x .1)) (b .row))

@@ -20,7 +20,7 @@ abbrev μ-loop : tie.MeasureT-loop
 
 -- the fields of the edge at hand
 field : (c : tie.In-loop Inv-loop μ-loop)
-    → ((1 ≤ labelOf (getD (c .before .before .before .before .before .before .before .before .args .edges .now) (c .before .loop .i) 0)) × (labelOf (getD (c .before .before .before .before .before .before .before .before .args .edges .now) (c .before .loop .i) 0) ≤ mostLabel)) × (fromOf (getD (c .before .before .before .before .before .before .before .before .args .edges .now) (c .before .loop .i) 0) < mostVertices)
+    → let x = getD (c .before .before .before .before .before .before .before .before .args .edges .now) (c .before .loop .i) 0 in ((1 ≤ labelOf x) × (labelOf x ≤ mostLabel)) × (fromOf x < mostVertices)
 field c =
     let edged = c .before .before .before .before .before .before .before .before .pre .0 in
     let m = getD-in _ _ (c .loop-test .taken) in

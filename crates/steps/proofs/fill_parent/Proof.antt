@@ -22,7 +22,9 @@ clear-rows-requires : tie.Need-clear-rows-requires Inv-loop μ-loop
 clear-rows-requires c κs = (omega arith, c .before .before .before .before .before .pre .1 .1 .long)
 
 next-requires : tie.Need-next-requires Inv-loop μ-loop
-next-requires c κs = (record { row = omega (arith, c .before .before .before .before .before .before .before .before .before .pre .1 .1 .most); long = keeps-long (c .before .before .before .clear-rows .ensures .keeps) (c .before .before .before .before .before .before .before .before .before .pre .1 .1 .long) }, omega arith)
+next-requires c κs =
+    let sourced = c .before .before .before .before .before .before .before .before .before .pre .1 .1 in
+    (record { row = omega (arith, sourced .most); long = keeps-long (c .before .before .before .clear-rows .ensures .keeps) (sourced .long) }, omega arith)
 
 loop-holds : tie.Need-loop-holds Inv-loop μ-loop
 loop-holds c = filling-next (filling-none (c .before .before .before .before .before .before .before .before .before .before .pre .1 .1) (c .before .before .before .before .clear-rows .ensures)) (c .next .ensures)
@@ -31,7 +33,9 @@ add-spell : tie.Need-add-spell Inv-loop μ-loop
 add-spell c = omega arith
 
 spell-requires : tie.Need-spell-requires Inv-loop μ-loop
-spell-requires c κs = (c .before .before .before .before .before .before .before .before .before .before .before .before .before .pre .0, (c .before .before .before .before .before .before .before .before .before .before .before .before .before .pre .1 .0, (record { row = omega arith; long = long (c .before .before) }, c .before .loop-test .taken)))
+spell-requires c κs =
+    let start = c .before .before .before .before .before .before .before .before .before .before .before .before .before in
+    (start .pre .0, (start .pre .1 .0, (record { row = omega arith; long = long (c .before .before) }, omega arith)))
 
 add-next : tie.Need-add-next Inv-loop μ-loop
 add-next c = omega arith

@@ -72,7 +72,9 @@ add-join : tie.Need-add-join Inv-loop μ-loop
 add-join c = omega (arith, sub-join c, c .before .if1 .left)
 
 join-requires : tie.Need-join-requires Inv-loop μ-loop
-join-requires c κs = (has (c .before .before .before .before) _ (omega arith), (has (c .before .before .before .before) _ (omega arith), has (c .before .before .before .before) _ (omega (arith, sub-join c, c .before .if1 .left))))
+join-requires c κs =
+    let at = c .before .before .before .before in
+    (has at _ (omega arith), (has at _ (omega arith), has at _ (omega (arith, sub-join c, c .before .if1 .left))))
 
 add-i : tie.Need-add-i Inv-loop μ-loop
 add-i c = omega arith

@@ -29,7 +29,9 @@ clear-requires : tie.Need-clear-requires Inv-loop μ-loop
 clear-requires c κs = record { row = omega arith; long = c .before .before .before .before .before .pre .1 .1 .0 .long }
 
 mark-requires : tie.Need-mark-requires Inv-loop μ-loop
-mark-requires c κs = (has-kept (c .before .before .before .clear .ensures) (record { row = omega arith; long = c .before .before .before .before .before .before .before .before .before .pre .1 .1 .0 .long }), c .before .before .before .before .before .before .before .before .before .pre .1 .1 .1)
+mark-requires c κs =
+    let start = c .before .before .before .before .before .before .before .before .before in
+    (has-kept (c .before .before .before .clear .ensures) (record { row = omega arith; long = start .pre .1 .1 .0 .long }), start .pre .1 .1 .1)
 
 loop-holds : tie.Need-loop-holds Inv-loop μ-loop
 loop-holds c = along-none (c .before .before .before .before .before .before .clear .ensures) (c .before .before .mark .ensures)
@@ -47,7 +49,9 @@ add-step : tie.Need-add-step Inv-loop μ-loop
 add-step c = omega (arith, c .before .before .before .before .before .before .before .before .before .before .before .before .before .before .before .before .pre .1 .0 .short)
 
 step-requires : tie.Need-step-requires Inv-loop μ-loop
-step-requires c κs = (c .before .before .before .before .before .before .before .before .before .before .before .before .before .before .before .before .pre .0, (label (c .before .before), (omega arith, has (c .before .before .before) _ (omega (arith, c .before .before .before .before .before .before .before .before .before .before .before .before .before .before .before .before .pre .1 .0 .short)))))
+step-requires c κs =
+    let start = c .before .before .before .before .before .before .before .before .before .before .before .before .before .before .before .before in
+    (start .pre .0, (label (c .before .before), (omega arith, has (c .before .before .before) _ (omega (arith, start .pre .1 .0 .short)))))
 
 add-i : tie.Need-add-i Inv-loop μ-loop
 add-i c = omega (arith, c .before .before .before .before .before .before .before .before .before .before .before .before .before .before .before .before .before .before .before .pre .1 .0 .short)
@@ -56,7 +60,9 @@ loop-less : tie.Need-loop-less Inv-loop μ-loop
 loop-less c = omega arith
 
 loop-again : tie.Need-loop-again Inv-loop μ-loop
-loop-again c = along-more (c .before .before .before .before .before .before .loop .inv) (c .before .before .before .before .before .before .before .before .before .before .before .before .before .before .before .before .before .before .before .pre .1 .1 .1) (c .before .before .before .before .before .before .before .before .before .before .before .before .before .before .before .before .before .before .before .pre .1 .0 .short) (c .before .before .before .before .before .loop-test .taken) (c .before .before .step .ensures)
+loop-again c =
+    let start = c .before .before .before .before .before .before .before .before .before .before .before .before .before .before .before .before .before .before .before in
+    along-more (c .before .before .before .before .before .before .loop .inv) (start .pre .1 .1 .1) (start .pre .1 .0 .short) (c .before .before .before .before .before .loop-test .taken) (c .before .before .step .ensures)
 
 add-end : tie.Need-add-end Inv-loop μ-loop
 add-end c = omega (arith, c .before .before .before .before .before .before .before .before .before .before .before .before .before .before .pre .1 .0 .short)
@@ -64,8 +70,9 @@ add-end c = omega (arith, c .before .before .before .before .before .before .bef
 join-requires : tie.Need-join-requires Inv-loop μ-loop
 join-requires c κs =
     let at = c .before .before in
-    let last = has at (tempRows + at .loop .i) (omega (arith, c .before .before .before .before .before .before .before .before .before .before .before .before .before .before .before .pre .1 .0 .short)) in
-    (has at _ (c .before .before .before .before .before .before .before .before .before .before .before .before .before .before .before .pre .1 .1 .0 .row), (last, last))
+    let start = c .before .before .before .before .before .before .before .before .before .before .before .before .before .before .before in
+    let last = has at (tempRows + at .loop .i) (omega (arith, start .pre .1 .0 .short)) in
+    (has at _ (start .pre .1 .1 .0 .row), (last, last))
 
 same-length : tie.Need-same-length Inv-loop μ-loop
 same-length c = c .before .before .join .ensures .len ∙ c .before .before .before .before .before .loop .inv .keeps .len ∙ c .before .before .before .before .before .before .before .before .mark .ensures .len ∙ c .before .before .before .before .before .before .before .before .before .before .before .before .clear .ensures .len

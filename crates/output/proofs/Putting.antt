@@ -1,0 +1,87 @@
+-- Staged entries put back one by one, and what stays true of them: they are distinct and narrow.
+use mathlib.Core.Path.{_≡_, refl, sym, ap, _∙_}
+use mathlib.Core.List.{List, [], _∷_, map, Memᴰ·of-map}
+use Prim.Native.Nat.{ℕ, zero, suc, _+_, _<_, _^_}
+use native.Mathlib.Nat.{le-of-suc-le-suc, not-suc-le-zero}
+use native.Mathlib.Omega.{arith}
+use lib.ListN.{length, getD, set, length-map}
+use Rattle.model.specs.Lists.{_∈_}
+use Rattle.model.specs.Limits.{mostVertices}
+use Rattle.model.specs.Order.{rank, Names}
+use Rattle.model.specs.Entries.{entryOf}
+use Rattle.model.specs.Query.{sideOf, ownerOf, hubOf, codeOf}
+use Rattle.model.proofs.Lists.{getD-in}
+use Rattle.model.proofs.Ranks.{rank-at, names-length}
+use Rattle.model.proofs.Renumber.{translate, entry-fields}
+use Rattle.sort.specs.Order.{Distinct, Narrow}
+use Rattle.edges.proofs.Mix.{Mixed, front-none, front-turn}
+use Rattle.output.specs.Output.{Translatable}
+
+getD-map : (f : ℕ → ℕ) (l : List ℕ) (i : ℕ) → i < length l → getD (map f l) i 0 ≡ f (getD l i 0)
+getD-map f [] i h = absurd (not-suc-le-zero h)
+getD-map f (x ∷ l) zero h = refl
+getD-map f (x ∷ l) (suc i) h = getD-map f l i (le-of-suc-le-suc h)
+
+-- ---- a loop that puts f x for each x
+
+pub map-start : (f : ℕ → ℕ) (l : List ℕ) → Mixed (map f l) l l 0
+map-start f l = front-none (length-map l f)
+
+module _ (f : ℕ → ℕ) {l cur : List ℕ} {i : ℕ} (m : Mixed (map f l) l cur i) (h : i < length cur) where
+  -- what is to be put stands there still
+  pub waits : getD cur i 0 ∈ l
+  waits = rw (m .back i (omega arith)) (getD-in l i (omega (arith, m .size)))
+
+  pub map-turn : {v : ℕ} → v ≡ f (getD cur i 0) → Mixed (map f l) l (set cur i v) (i + 1)
+  map-turn e = front-turn m h (e ∙ ap f (m .back i (omega arith)) ∙ sym (getD-map f l i (omega (arith, m .size))))
+
+-- ---- what stays true
+
+pub map-distinct : {l : List ℕ} (f : ℕ → ℕ) → Distinct l → ((x y : ℕ) → x ∈ l → y ∈ l → f x ≡ f y → x ≡ y) → Distinct (map f l)
+map-distinct {l} f d once = record {
+  once = λ i j h k e.
+      let b : j < length l = omega (arith, length-map l f) in
+      let a : i < length l = omega arith in
+      d .once i j h b (once _ _ (getD-in l i a) (getD-in l j b) (sym (getD-map f l i a) ∙ e ∙ getD-map f l j b));
+}
+
+-- an entry is known by its fields
+whole : (x : ℕ) → entryOf (sideOf x) (ownerOf x) (hubOf x) (codeOf x) ≡ x
+whole x = omega arith
+
+module _ {order staged : List ℕ} (t : Translatable order staged) where
+  module _ (x : ℕ) (m : x ∈ staged) where
+    owner-small : getD order (ownerOf x) 0 < mostVertices
+    owner-small = t .order-small _ (getD-in order (ownerOf x) (t .owners x m))
+
+    hub-small : getD order (hubOf x) 0 < mostVertices
+    hub-small = t .order-small _ (getD-in order (hubOf x) (t .hubs x m))
+
+    pub translate-small : translate order x < 2 ^ 40
+    translate-small = omega (arith, t .sides x m, owner-small, hub-small)
+
+    fields : (sideOf (translate order x) ≡ sideOf x) × (ownerOf (translate order x) ≡ getD order (ownerOf x) 0)
+        × (hubOf (translate order x) ≡ getD order (hubOf x) 0) × (codeOf (translate order x) ≡ codeOf x)
+    fields = entry-fields (sideOf x) _ _ (codeOf x) owner-small hub-small (omega arith)
+
+  pub translate-narrow : Narrow (map (translate order) staged)
+  translate-narrow = record { small = λ y m. let (x, k, e) = Memᴰ·of-map (translate order) staged m in rw e at (translate-small x k) }
+
+  -- an order that names each vertex once tells the ranks apart
+  module _ {n : ℕ} (names : Names n order) where
+    rank-known : (i j : ℕ) → i < length order → j < length order → getD order i 0 ≡ getD order j 0 → i ≡ j
+    rank-known i j h k e =
+        sym (rank-at names i (omega (arith, names-length names))) ∙ ap (rank order) e ∙ rank-at names j (omega (arith, names-length names))
+
+    pub translate-once : (x y : ℕ) → x ∈ staged → y ∈ staged → translate order x ≡ translate order y → x ≡ y
+    translate-once x y a b e =
+        let (s, o, h, c) = fields x a in
+        let (s′, o′, h′, c′) = fields y b in
+        let side : sideOf x ≡ sideOf y = sym s ∙ ap sideOf e ∙ s′ in
+        let owner = rank-known (ownerOf x) (ownerOf y) (t .owners x a) (t .owners y b) (sym o ∙ ap ownerOf e ∙ o′) in
+        let hub = rank-known (hubOf x) (hubOf y) (t .hubs x a) (t .hubs y b) (sym h ∙ ap hubOf e ∙ h′) in
+        let code : codeOf x ≡ codeOf y = sym c ∙ ap codeOf e ∙ c′ in
+        sym (whole x) ∙ rw (side, owner, hub, code) (whole y)
+
+    pub translate-distinct : Distinct staged → Distinct (map (translate order) staged)
+    translate-distinct d = map-distinct (translate order) d translate-once

@@ -1,0 +1,64 @@
+-- `output::put_one` meets its contract: vertices are bytes, so the number fits.
+use Prim.Native.Nat.{_<_}
+use native.Mathlib.Omega.{arith}
+use borrow.Author.Needs.{needs}
+use lib.ListN.{getD}
+use Rattle.model.specs.Query.{ownerOf, hubOf}
+use Rattle.output.proofs.put_one.Statement.{statement}
+use Rattle.output.proofs.put_one.Tie as tie
+
+-- the vertices that are read
+bytes : (c : tie.After-shared-slice-known)
+    → (getD (c .before .args .order .now) (ownerOf (c .before .args .x)) 0 < 256) × (getD (c .before .args .order .now) (hubOf (c .before .args .x)) 0 < 256)
+bytes c =
+    let x = c .before .args .x in
+    (omega (arith, c .shared-slice-known .given (ownerOf x)), omega (arith, c .shared-slice-known .given (hubOf x)))
+
+shared-slice-read-owner : tie.Need-shared-slice-read-owner
+shared-slice-read-owner c = search needs
+
+cast-owner : tie.Need-cast-owner
+cast-owner c = omega (arith, bytes c)
+
+shared-slice-read-hub : tie.Need-shared-slice-read-hub
+shared-slice-read-hub c = search needs
+
+cast-hub : tie.Need-cast-hub
+cast-hub c = omega (arith, bytes (c .before))
+
+mul-result : tie.Need-mul-result
+mul-result c = search needs
+
+mul-result-2 : tie.Need-mul-result-2
+mul-result-2 c = omega (arith, bytes (c .before))
+
+add-result : tie.Need-add-result
+add-result c = omega (arith, bytes (c .before))
+
+mul-result-3 : tie.Need-mul-result-3
+mul-result-3 c = omega (arith, bytes (c .before))
+
+add-result-2 : tie.Need-add-result-2
+add-result-2 c = omega (arith, bytes (c .before))
+
+add-result-3 : tie.Need-add-result-3
+add-result-3 c = omega (arith, bytes (c .before))
+
+returns : tie.Need-returns
+returns c = search needs
+
+pub put-one-spec : {M : Type 1} → statement M
+put-one-spec =
+    tie.close
+    (tie.spec
+    shared-slice-read-owner
+    cast-owner
+    shared-slice-read-hub
+    cast-hub
+    mul-result
+    mul-result-2
+    add-result
+    mul-result-3
+    add-result-2
+    add-result-3
+    returns)

@@ -1,0 +1,6 @@
+pub mod Codes
+pub mod Scanning
+pub mod Halving
+pub mod Joining
+pub mod Answering
+pub mod Call

@@ -1,0 +1,108 @@
+-- `query::scan` meets its contract. The invariant: from slot i on, with the last entry passed, the memory says what all of it says.
+use mathlib.Core.Path.{_≡_, sym, _∙_}
+use mathlib.Core.Bool.{true, false}
+use Prim.Native.Nat.{_≤_, _-_}
+use native.Mathlib.Omega.{arith}
+use borrow.Author.Needs.{needs}
+use lib.ListN.{length, drop}
+use Rattle.query.specs.Memory.{scanOf}
+use Rattle.query.proofs.Scanning.{scanFrom, scan-start, scan-zero, scan-low, scan-other, scan-more, scan-end}
+use Rattle.query.proofs.scan.Statement.{statement}
+use Rattle.query.proofs.scan.Tie as tie
+
+abbrev Inv-loop : tie.InvT-loop
+Inv-loop vertices longest index i₀ prev₀ i prev = (i ≤ length index) × (scanFrom vertices longest prev i (drop i index) ≡ scanOf vertices longest index)
+
+abbrev μ-loop : tie.MeasureT-loop
+μ-loop vertices longest index i₀ prev₀ i prev = length index - i
+
+loop-holds : tie.Need-loop-holds Inv-loop μ-loop
+loop-holds c = (omega arith, scan-start _ _ _)
+
+mul-x : tie.Need-mul-x Inv-loop μ-loop
+mul-x c = search needs
+
+shared-slice-read-x : tie.Need-shared-slice-read-x Inv-loop μ-loop
+shared-slice-read-x c = search needs
+
+mul-all-zero : tie.Need-mul-all-zero Inv-loop μ-loop
+mul-all-zero c = search needs
+
+sub-all-zero : tie.Need-sub-all-zero Inv-loop μ-loop
+sub-all-zero c = search needs
+
+part-all-zero-start : tie.Need-part-all-zero-start Inv-loop μ-loop
+part-all-zero-start c = search needs
+
+part-all-zero-end : tie.Need-part-all-zero-end Inv-loop μ-loop
+part-all-zero-end c = search needs
+
+all-zero-requires : tie.Need-all-zero-requires Inv-loop μ-loop
+all-zero-requires c κs = search needs
+
+returns : tie.Need-returns Inv-loop μ-loop
+returns c =
+    let t = c .before .before .before .before .before in
+    let z = sym (c .before .all-zero .ensures) ∙ c .if2 .taken in
+    sym (scan-zero _ _ _ _ _ (t .loop-test .taken) (c .before .before .before .if1 .taken) true z) ∙ t .before .loop .inv .1
+
+returns-2 : tie.Need-returns-2 Inv-loop μ-loop
+returns-2 c =
+    let t = c .before .before .before .before .before in
+    let z = sym (c .before .all-zero .ensures) ∙ c .if2 .left in
+    sym (scan-zero _ _ _ _ _ (t .loop-test .taken) (c .before .before .before .if1 .taken) false z) ∙ t .before .loop .inv .1
+
+returns-3 : tie.Need-returns-3 Inv-loop μ-loop
+returns-3 c =
+    let t = c .before .before .before in
+    sym (sym (t .before .loop .inv .1) ∙ scan-low _ _ _ _ _ (t .loop-test .taken) (c .before .if1 .left) (omega (arith, c .if3 .taken)))
+
+is-entry-requires : tie.Need-is-entry-requires Inv-loop μ-loop
+is-entry-requires c κs = search needs
+
+add-i : tie.Need-add-i Inv-loop μ-loop
+add-i c = search needs
+
+loop-less : tie.Need-loop-less Inv-loop μ-loop
+loop-less c = search needs
+
+loop-again : tie.Need-loop-again Inv-loop μ-loop
+loop-again c =
+    let t = c .before .before .before .before .before in
+    let e = sym (c .before .is-entry .ensures) ∙ c .if4 .taken in
+    let n = c .before .before in
+    (omega arith, scan-more _ _ _ _ _ (t .loop-test .taken) (n .before .if1 .left) (n .if3 .left) e ∙ t .before .loop .inv .1)
+
+returns-4 : tie.Need-returns-4 Inv-loop μ-loop
+returns-4 c =
+    let t = c .before .before .before .before .before in
+    let e = sym (c .before .is-entry .ensures) ∙ c .if4 .left in
+    let n = c .before .before in
+    sym (scan-other _ _ _ _ _ (t .loop-test .taken) (n .before .if1 .left) (n .if3 .left) e) ∙ t .before .loop .inv .1
+
+returns-5 : tie.Need-returns-5 Inv-loop μ-loop
+returns-5 c = sym (scan-end _ _ _ _ _ (c .loop-test .left)) ∙ c .before .loop .inv .1
+
+pub scan-spec : {M : Type 1} → statement M
+scan-spec =
+    tie.close
+    (tie.spec
+    Inv-loop
+    μ-loop
+    loop-holds
+    mul-x
+    shared-slice-read-x
+    mul-all-zero
+    sub-all-zero
+    part-all-zero-start
+    part-all-zero-end
+    all-zero-requires
+    returns
+    returns-2
+    returns-3
+    is-entry-requires
+    add-i
+    loop-less
+    loop-again
+    returns-4
+    returns-5)

@@ -1,0 +1,4 @@
+pub mod Memory
+pub mod Codes
+pub mod Parts
+pub mod Call

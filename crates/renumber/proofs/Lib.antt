@@ -1,0 +1,3 @@
+pub mod Inverting
+pub mod Filling
+pub mod Renumbering
