@@ -85,7 +85,7 @@ module _ {w : List ℕ} {domain side code slots cnt : ℕ} (f : Finishable w dom
         where
           same : (k : ℕ) → k < leastWork → mostVertices ≤ k / 4 → k / 4 < tempRows → getD w₃ k 0 ≡ getD w k 0
           same k h l m = e .keeps .same k (λ q. omega arith) ∙ s .kept k h (λ q. omega arith)
-            ∙ c .others k (omega arith) (λ q. omega arith) (λ q. omega arith)
+              ∙ c .others k (omega arith) (λ q. omega arith) (λ q. omega arith)
 
           hubs : (x : ℕ) → Hubbed w₁ side code x → Picked (Plus (Step w)) side code x
           hubs x p =

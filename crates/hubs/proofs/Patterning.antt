@@ -137,7 +137,7 @@ module _ {edges slots w : List ℕ} {label starts code room cnt : ℕ} (p : Patt
           where
             kept : (j : ℕ) → j < mostVertices → cell w₃ starts j ≡ cell w₂ starts j
             kept = same-row w₂ w₃ starts (λ k l. t .keeps .same (starts * 4 + k)
-              (⊎-elim (λ q. omega (arith, p .fillable .least)) (λ q. omega (arith, p .fillable .most))))
+                (⊎-elim (λ q. omega (arith, p .fillable .least)) (λ q. omega (arith, p .fillable .most))))
 
         pub patterned : {w₄ : List ℕ} {r′ : ℕ} → Finished w₃ 1 code room r w₄ r′ → Patterned edges w label code room cnt w₄ r′
         patterned {w₄} {r′} z =

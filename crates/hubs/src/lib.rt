@@ -3,14 +3,7 @@ ghost use Rattle.hubs.specs.Finish.{Finishable, Finished};
 ghost use Rattle.hubs.specs.Pattern.{Patternable, Patterned};
 
 // Closes the step rows, stages the entries of one side behind the first cnt, and empties the rows. Returns how many are staged then, or slots + 1.
-fn finish(
-    w: &mut [u64],
-    domain: usize,
-    side: u64,
-    code: u64,
-    slots: usize,
-    cnt: usize,
-) -> usize
+fn finish(w: &mut [u64], domain: usize, side: u64, code: u64, slots: usize, cnt: usize) -> usize
     requires { ⌜ Finishable (now w) domain side code slots cnt ⌝ }
     ensures { λ r. ⌜ Finished (now (w .entry)) side code slots cnt (now (w .exit)) r ⌝ }
 {

@@ -168,7 +168,7 @@ folded {k} {l} p = record {
   own = repeat-own l (p .long);
 }
 
-test-own : (l : List ℕ) → 1 ≤ length l → Tests (own? l) (MinRepeat l l)
+pub test-own : (l : List ℕ) → 1 ≤ length l → Tests (own? l) (MinRepeat l l)
 unfolding own?
 test-own l h = record {
   yields = λ t. rw ((test-same (minRepeat l) l) .yields t) at (min-repeat l h);

@@ -1,0 +1,136 @@
+-- `endings::leaf` meets its contract: nothing where no walk spells the pattern or it is no minimum repeat, else what it stages.
+use mathlib.Core.Path.{sym, ap, subst, _∙_}
+use native.Mathlib.Omega.{arith}
+use borrow.Author.Needs.{needs}
+use Rattle.model.specs.Limits.{mostLongest}
+use Rattle.model.specs.Patterns.{Keyed, own?, code as codeOf}
+use Rattle.model.proofs.Patterns.{keyed-up}
+use Rattle.endings.proofs.Leafing.{leafed-empty, part-word, keyed, leafed-folds, patternable, leafed}
+use Rattle.endings.proofs.leaf.Statement.{statement}
+use Rattle.endings.proofs.leaf.Tie as tie
+
+mul-row : tie.Need-mul-row
+mul-row c = search needs
+
+add-row : tie.Need-add-row
+add-row c = search needs
+
+add-row-2 : tie.Need-add-row-2
+add-row-2 c = search needs
+
+next-requires : tie.Need-next-requires
+next-requires c κs = search needs
+
+same-length : tie.Need-same-length
+same-length c = search needs
+
+returns : tie.Need-returns
+returns c =
+    let pre = c .before .before .before .before .before .before .pre in
+    leafed-empty (pre .0) (pre .1) (c .before .next .ensures) (c .if1 .taken)
+
+child-requires : tie.Need-child-requires
+child-requires c κs = search needs
+
+sub-start : tie.Need-sub-start
+sub-start c = search needs
+
+sub-is-own : tie.Need-sub-is-own
+sub-is-own c = search needs
+
+part-is-own-start : tie.Need-part-is-own-start
+part-is-own-start c = search needs
+
+part-is-own-end : tie.Need-part-is-own-end
+part-is-own-end c = search needs
+
+is-own-requires : tie.Need-is-own-requires
+is-own-requires c κs =
+    let child = c .before .before in
+    let pre = child .before .before .before .before .before .before .before .pre in
+    subst (Keyed mostLongest) (sym (part-word (pre .0) (pre .1) (child .child .ensures))) (keyed-up (pre .0 .chosen .most) (keyed (pre .0) (pre .1)))
+
+sub-code : tie.Need-sub-code
+sub-code c = search needs
+
+part-code-start : tie.Need-part-code-start
+part-code-start c = search needs
+
+part-code-end : tie.Need-part-code-end
+part-code-end c = search needs
+
+code-requires : tie.Need-code-requires
+code-requires c κs =
+    let child = c .before .before .before .before .before .before in
+    let pre = child .before .before .before .before .before .before .before .pre in
+    subst (Keyed mostLongest) (sym (part-word (pre .0) (pre .1) (child .child .ensures))) (keyed-up (pre .0 .chosen .most) (keyed (pre .0) (pre .1)))
+
+add-stage-pattern : tie.Need-add-stage-pattern
+add-stage-pattern c = search needs
+
+cast-stage-pattern : tie.Need-cast-stage-pattern
+cast-stage-pattern c = search needs
+
+stage-pattern-requires : tie.Need-stage-pattern-requires
+stage-pattern-requires c κs =
+    let code = c .before in
+    let child = code .before .before .before .before .before .before .before in
+    let pre = child .before .before .before .before .before .before .before .pre in
+    patternable (pre .0) (pre .1) (omega arith) (code .code .ensures ∙ ap codeOf (part-word (pre .0) (pre .1) (child .child .ensures)))
+
+same-length-2 : tie.Need-same-length-2
+same-length-2 c = search needs
+
+returns-2 : tie.Need-returns-2
+returns-2 c =
+    let staged = c .before .before in
+    let code = staged .before .before in
+    let own = code .before .before .before .before in
+    let child = own .before .before .before in
+    let pre = child .before .before .before .before .before .before .before .pre in
+    let word = part-word (pre .0) (pre .1) (child .child .ensures) in
+    leafed
+    (pre .0)
+    (pre .1)
+    (omega arith)
+    (code .code .ensures ∙ ap codeOf word)
+    (ap own? (sym word) ∙ (sym (own .is-own .ensures) ∙ code .before .before .before .if2 .taken))
+    (staged .stage-pattern .ensures)
+
+same-length-3 : tie.Need-same-length-3
+same-length-3 c = search needs
+
+returns-3 : tie.Need-returns-3
+returns-3 c =
+    let own = c .before in
+    let child = own .before .before .before in
+    let pre = child .before .before .before .before .before .before .before .pre in
+    leafed-folds (pre .0) (pre .1) (ap own? (sym (part-word (pre .0) (pre .1) (child .child .ensures))) ∙ (sym (own .is-own .ensures) ∙ c .if2 .left))
+
+pub leaf-spec : {M : Type 1} → statement M
+leaf-spec =
+    tie.close
+    (tie.spec
+    mul-row
+    add-row
+    add-row-2
+    next-requires
+    same-length
+    returns
+    child-requires
+    sub-start
+    sub-is-own
+    part-is-own-start
+    part-is-own-end
+    is-own-requires
+    sub-code
+    part-code-start
+    part-code-end
+    code-requires
+    add-stage-pattern
+    cast-stage-pattern
+    stage-pattern-requires
+    same-length-2
+    returns-2
+    same-length-3
+    returns-3)
