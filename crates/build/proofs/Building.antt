@@ -1,0 +1,74 @@
+-- The build as a whole: the entries staged and the index written, or left as it was.
+use mathlib.Core.Path.{_≡_, refl, sym, ap, _∙_}
+use mathlib.Core.List.{List}
+use Prim.Native.Nat.{ℕ, _+_, _≤_, _<_}
+use native.Mathlib.Omega.{arith}
+use lib.ListN.{length, take}
+use lib.Seq.{length-take-le}
+use Rattle.model.specs.Limits.{leastWork}
+use Rattle.model.specs.Edges.{Graph, Small}
+use Rattle.model.specs.Order.{counted, Names}
+use Rattle.model.specs.Entries.{determined}
+use Rattle.model.proofs.Tests.{test-true, test-false, test-lt}
+use Rattle.output.proofs.Putting.{translate-narrow, translate-distinct}
+use Rattle.build.specs.declared.Built.the-variants.{Entries, TooMany}
+use Rattle.build.specs.Build.{Buildable, listOf, Saved, Builds}
+use Rattle.build.specs.Parts.{Stageable, Stages, Writable, Writes}
+use Rattle.build.proofs.Listing.{staged-distinct, staged-translatable, listing-length, written-listing, too-many}
+
+saved-then : {w w′ w″ : List ℕ} → Saved w w′ → Saved w′ w″ → Saved w w″
+saved-then s t = record { len = t .len ∙ s .len; same = λ k h l. t .same k h l ∙ s .same k h l }
+
+-- with the counted order they are the determined entries
+pub list-determined : (g : Graph) (order : List ℕ) → take (g .vertices) order ≡ counted g → listOf g order ≡ determined g
+unfolding determined
+list-determined g order e = rw e refl
+
+module _ {vertices longest : ℕ} {edges order index w : List ℕ} (b : Buildable vertices longest edges order index w) where
+  abbrev g : Graph
+  g = record { vertices = vertices; longest = longest; edges = edges }
+
+  small : Small g
+  small = record { vertices-small = b .ordered .named .vertices-small; longest-small = b .longest-most }
+
+  pub order-front : vertices ≡ length (take vertices order)
+  order-front = sym (length-take-le vertices order (b .ordered .named .long))
+
+  pub stageable : Stageable vertices longest edges order w (length index)
+  stageable = record { ordered = b .ordered; longest-least = b .longest-least; longest-most = b .longest-most; there = b .work }
+
+  names : Names vertices (take vertices order)
+  names = b .ordered .named .names
+
+  module _ {w₁ : List ℕ} {r : ℕ} (s : Stages vertices longest edges order w (length index) w₁ r) where
+    pub builds-none : length index < r → Builds g order index w index w₁ TooMany
+    builds-none h =
+        let e = test-true (test-lt (length index) (length (listOf g order))) (too-many longest names (s .renumbers) small (s .outcome .over h)) in
+        record { reply = rw e refl; index-is = rw e refl; saved = s .saved }
+
+    module _ (fits : r ≤ length index) where
+      there : leastWork + r ≤ length w₁
+      there = omega (arith, s .saved .len, b .work)
+
+      pub writable : Writable (take vertices order) w₁ index r
+      writable =
+          let a = s .outcome .done fits in
+          let t = staged-translatable longest names (s .renumbers) small a there in
+          record {
+            there = there;
+            fits = fits;
+            translatable = t;
+            distinct = translate-distinct t names (staged-distinct a there);
+            narrow = translate-narrow t;
+          }
+
+      pub builds-all : {w₂ index′ : List ℕ} → Writes (take vertices order) w₁ index r w₂ index′ → Builds g order index w index′ w₂ (Entries r)
+      builds-all {w₂} {index′} z =
+          let a = s .outcome .done fits in
+          let size = listing-length longest names (s .renumbers) small a there (z .written .sorts) in
+          let e = test-false (test-lt (length index) (length (listOf g order))) (λ l. omega (arith, fits, size, l)) in
+          record {
+            reply = rw e (ap Entries size);
+            index-is = rw e (written-listing longest names (s .renumbers) small a there (z .written));
+            saved = saved-then (s .saved) (z .saved);
+          }

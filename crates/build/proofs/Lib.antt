@@ -1,0 +1,4 @@
+pub mod Listing
+pub mod Staged
+pub mod Writing
+pub mod Building

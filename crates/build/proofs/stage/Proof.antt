@@ -1,0 +1,76 @@
+-- `build::stage` meets its contract: renumbered, and staged from the empty word on.
+use mathlib.Core.Path.{_≡_, sym}
+use lib.ListN.{length, take}
+use lib.Seq.{length-take-le}
+use native.Mathlib.Omega.{arith}
+use borrow.Author.Needs.{needs}
+use Rattle.build.proofs.Staged.{node-ready, staged-all}
+use Rattle.build.proofs.stage.Statement.{statement}
+use Rattle.build.proofs.stage.Tie as tie
+
+-- as many numbers are lent as there are edges
+front : (c : tie.After-renumber) → length (c .before .before .before .before .args .edges .now) ≡ length (take (length (c .before .before .before .before .args .edges .now)) (c .renumber .result))
+front c = sym (length-take-le _ (c .renumber .result) (omega (arith, c .renumber .ensures .long, c .before .before .before .before .pre .ordered .few)))
+
+renumber-requires : tie.Need-renumber-requires
+renumber-requires c κs = search needs
+
+array-share-prefix-renumbered : tie.Need-array-share-prefix-renumbered
+array-share-prefix-renumbered c = search needs
+
+slice-aggregate-first-slots : tie.Need-slice-aggregate-first-slots
+slice-aggregate-first-slots c = front (c .before)
+
+first-slots-requires : tie.Need-first-slots-requires
+first-slots-requires c κs = search needs
+
+root-requires : tie.Need-root-requires
+root-requires c κs = search needs
+
+array-share-prefix-renumbered-2 : tie.Need-array-share-prefix-renumbered-2
+array-share-prefix-renumbered-2 c = search needs
+
+slice-aggregate-node : tie.Need-slice-aggregate-node
+slice-aggregate-node c = front (c .before .before .before .before .before .before .before)
+
+slice-aggregate-node-2 : tie.Need-slice-aggregate-node-2
+slice-aggregate-node-2 c = search needs
+
+node-requires : tie.Need-node-requires
+node-requires c κs =
+    let root = c .before .before .before .before .before in
+    let slots = root .before .before in
+    let renumber = slots .before .before in
+    node-ready (renumber .before .before .before .before .pre) (renumber .renumber .ensures) (slots .first-slots .ensures) (root .root .ensures)
+
+same-length : tie.Need-same-length
+same-length c = search needs
+
+returns : tie.Need-returns
+returns c =
+    let node = c .before .before in
+    let root = node .before .before .before .before .before .before in
+    let slots = root .before .before in
+    let renumber = slots .before .before in
+    staged-all
+    (renumber .before .before .before .before .pre)
+    (renumber .renumber .ensures)
+    (slots .first-slots .ensures)
+    (root .root .ensures)
+    (node .node .ensures)
+
+pub stage-spec : {M : Type 1} → statement M
+stage-spec =
+    tie.close
+    (tie.spec
+    renumber-requires
+    array-share-prefix-renumbered
+    slice-aggregate-first-slots
+    first-slots-requires
+    root-requires
+    array-share-prefix-renumbered-2
+    slice-aggregate-node
+    slice-aggregate-node-2
+    node-requires
+    same-length
+    returns)
