@@ -1,17 +1,21 @@
--- All starred trial runs hold, by one computed test; so each does.
+-- All trial runs of the table hold, by one computed test; so each does.
 use mathlib.Core.List.{List·Memᴰ}
 use lib.Dec.{T}
-use Rattle.model.specs.Lists.{any?, all?, keep, from}
-use Rattle.model.specs.Edges.{edge?, zeros?, risingEdges?, edgeMemory?, standing}
-use Rattle.model.specs.Patterns.{times, keyed?, repeatFrom, minRepeat}
-use Rattle.model.specs.Levels.{states, leads?, led?, grow, stage, replyFrom, levelReply}
+use Rattle.model.specs.Lists.{any?, all?, keep, from, spread}
+use Rattle.model.specs.Edges.{edge?, zeros?, risingEdges?, edgeMemory?, standing, removeEdge}
+use Rattle.model.specs.Patterns.{times, keyed?, repeatFrom, minRepeat, own?, codeFrom, words, patterns}
+use Rattle.model.specs.Order.{weight, place, byWeight, counted, rank}
+use Rattle.model.specs.Levels.{states, leads?, led?, grow, stage, replyFrom, levelReply, runs?}
+use Rattle.model.specs.Entries.{stop?, allStops, earliest?, out?, in?, ofHub, ofOwner, ofSide, entries, determined}
+use Rattle.model.specs.Query.{digits, code?, entry?, risingEntries?, indexMemory?, answers?}
 use Rattle.model.proofs.Tests.{test-all, test-T}
 use Rattle.calls.specs.Checks.{firstRefusal}
 use Rattle.calls.specs.Search.{searchRefusal, searchCall}
-use Rattle.demands.specs.Trials.{Case, A, trials, holds?, sameReply?}
+use Rattle.calls.specs.Query.{queryRefusal, queryCall}
+use Rattle.demands.specs.Trials.{Case, A, figure2, tableII, slotsA, loop, B, liftedB, trials, holds?, sameReply?, sameAnswer?, entriesOf}
 
 all-hold : T (all? holds? trials)
-unfolding A trials holds? sameReply? any? all? keep from edge? zeros? risingEdges? edgeMemory? standing times keyed? repeatFrom minRepeat states leads? led? grow stage replyFrom levelReply firstRefusal searchRefusal searchCall
+unfolding A figure2 tableII slotsA loop B liftedB trials holds? sameReply? sameAnswer? entriesOf any? all? keep from spread edge? zeros? risingEdges? edgeMemory? standing removeEdge times keyed? repeatFrom minRepeat own? codeFrom words patterns weight place byWeight counted rank states leads? led? grow stage replyFrom levelReply runs? stop? allStops earliest? out? in? ofHub ofOwner ofSide entries determined digits code? entry? risingEntries? indexMemory? answers? firstRefusal searchRefusal searchCall queryRefusal queryCall
 all-hold = tt
 
 pub each-holds : (c : Case) → List·Memᴰ c trials → T (holds? c)

@@ -1,14 +1,18 @@
--- The starred trial runs of document 01, as one table of cases, put to the calls' definitions.
-use mathlib.Core.Bool.{Bool, true, false, _&&_}
+-- The starred trial runs of document 01 and layout A's slots, as one table of cases, put to the calls' definitions.
+use mathlib.Core.Bool.{Bool, true, false, not}
 use mathlib.Core.List.{List, [], _∷_}
 use Prim.Native.Nat.{ℕ}
 use lib.Dec.{eqb}
 use lib.ListN.{length, replicate}
 use Rattle.model.specs.Lists.{same?}
 use Rattle.model.specs.Limits.{leastWork}
+use Rattle.model.specs.Edges.{edgeNumber, standing, removeEdge}
 use Rattle.model.specs.Patterns.{minRepeat}
 use Rattle.model.specs.Levels.{Reply, Yes, No, Spent, Refused}
+use Rattle.model.specs.Entries.{determined}
+use Rattle.model.specs.Query.{Answered, Yes as AnsweredYes, No as AnsweredNo, Refused as AnsweredRefused}
 use Rattle.calls.specs.Search.{searchCall}
+use Rattle.calls.specs.Query.{queryCall}
 
 -- a layout as a call meets it: places, k and leg memory
 pub record Layout : Type 0 where
@@ -20,20 +24,64 @@ pub record Layout : Type 0 where
 unfoldable pub A : Layout
 A = record { vertices = 3; longest = 2; edges = 257 ∷ 4354 ∷ 4608 ∷ [] }
 
+-- "The slots are": A's index memory, of five slots
+unfoldable pub slotsA : List ℕ
+slotsA = 18 ∷ 65537 ∷ 16842785 ∷ 4295032834 ∷ 4328587265 ∷ []
+
+-- "One place, k 1, leg 0-1-0"
+unfoldable pub loop : Layout
+loop = record { vertices = 1; longest = 1; edges = 256 ∷ [] }
+
+-- "Layout B: 8 places, k 1, legs 0-1-2, 0-1-3, 0-2-4, 1-1-0, 5-2-1, 6-2-1, 7-2-1"
+unfoldable pub B : Layout
+B = record { vertices = 8; longest = 1; edges = 258 ∷ 259 ∷ 516 ∷ 4352 ∷ 20993 ∷ 25089 ∷ 29185 ∷ [] }
+
+-- "Lifting 0-2-4": layout B without that leg
+unfoldable pub liftedB : Layout
+liftedB = record { vertices = 8; longest = 1; edges = removeEdge (edgeNumber 0 2 4) (B .edges) }
+
+-- Fig. 2 of paper 004, place v + 1 there being v here: legs 0-1-1, 0-2-2, 1-1-4, 1-2-4, 2-1-1, 2-1-5, 2-2-0, 2-2-3, 3-1-0, 3-3-5, 4-1-0
+unfoldable pub figure2 : Layout
+figure2 = record { vertices = 6; longest = 2; edges = 257 ∷ 514 ∷ 4356 ∷ 4612 ∷ 8449 ∷ 8453 ∷ 8704 ∷ 8707 ∷ 12544 ∷ 13061 ∷ 16640 ∷ [] }
+
+-- Table II there, the index that its authors print: first L_out, then L_in, by owner, hub and pattern
+unfoldable pub tableII : List ℕ
+tableII =
+    1 ∷ 2 ∷ 33 ∷ 16777217 ∷ 16777249 ∷ 33554433 ∷ 33554434 ∷ 33554465 ∷ 33685522
+    ∷ 50331649 ∷ 50462738 ∷ 67108865 ∷ 67239954 ∷ 4311744513 ∷ 4311744545 ∷ 4328521730 ∷ 4328521746 ∷ 4345298946
+    ∷ 4362076161 ∷ 4362076178 ∷ 4362141698 ∷ 4362207250 ∷ 4378853409 ∷ 4378984449 ∷ 4378984483 ∷ 4379049987
+    ∷ []
+
 pub data Case : Type 0 where
   -- a pattern, and its minimum repeat
   repeats : (pattern expected : List ℕ) → Case
   -- a plain check on a layout, from start to destination by a pattern with an allowance, and its reply
   checks : (y : Layout) (start destination : ℕ) (pattern : List ℕ) (allowance : ℕ) (expected : Reply) → Case
+  -- a question on a layout with an index memory, from start to destination by a pattern, and whether it is yes
+  asks : (y : Layout) (index : List ℕ) (start destination : ℕ) (pattern : List ℕ) (expected : Bool) → Case
+  -- a layout, and the entries that its legs determine
+  indexed : (y : Layout) (expected : List ℕ) → Case
+  -- a layout, and how many entries it needs
+  counts : (y : Layout) (expected : ℕ) → Case
 
 unfoldable pub trials : List Case
 trials =
-    repeats (1 ∷ 2 ∷ 1 ∷ 2 ∷ []) (1 ∷ 2 ∷ [])
+    indexed A slotsA
+    ∷ asks A slotsA 0 2 (1 ∷ []) true
+    ∷ asks A slotsA 2 0 (1 ∷ []) false
+    ∷ asks A slotsA 0 0 (1 ∷ 2 ∷ []) true
+    ∷ asks A slotsA 0 0 (1 ∷ []) false
+    ∷ asks A slotsA 0 0 (2 ∷ 1 ∷ []) false
+    ∷ repeats (1 ∷ 2 ∷ 1 ∷ 2 ∷ []) (1 ∷ 2 ∷ [])
     ∷ repeats (1 ∷ 2 ∷ 1 ∷ []) (1 ∷ 2 ∷ 1 ∷ [])
     ∷ checks A 0 2 (1 ∷ []) 0 (Spent 0)
     ∷ checks A 0 2 (1 ∷ []) 1 (Spent 1)
     ∷ checks A 0 2 (1 ∷ []) 2 (Yes 2)
     ∷ checks A 2 0 (1 ∷ []) 1 (No 1)
+    ∷ indexed loop (1 ∷ [])
+    ∷ counts B 7
+    ∷ counts liftedB 8
+    ∷ indexed figure2 tableII
     ∷ []
 
 -- the two replies are the same
@@ -55,8 +103,21 @@ sameReply? (Refused a) (No b) = false
 sameReply? (Refused a) (Spent b) = false
 sameReply? (Refused a) (Refused b) = eqb a b
 
+-- the answer is yes where that is expected, and no where not
+unfoldable pub sameAnswer? : Answered → Bool → Bool
+sameAnswer? AnsweredYes expected = expected
+sameAnswer? AnsweredNo expected = not expected
+sameAnswer? (AnsweredRefused n) expected = false
+
+-- "the entries that they determine": those of a layout's legs
+unfoldable pub entriesOf : Layout → List ℕ
+entriesOf y = determined (record { vertices = y .vertices; longest = y .longest; edges = standing (y .edges) })
+
 -- the definition gives what document 01 expects
 unfoldable pub holds? : Case → Bool
 holds? (repeats pattern expected) = same? (minRepeat pattern) expected
 holds? (checks y s t pattern allowance expected) =
     sameReply? (searchCall (y .vertices) (y .longest) s t pattern allowance (y .edges) (replicate leastWork 0) .reply) expected
+holds? (asks y index s t pattern expected) = sameAnswer? (queryCall (y .vertices) (y .longest) s t pattern index) expected
+holds? (indexed y expected) = same? (entriesOf y) expected
+holds? (counts y expected) = eqb (length (entriesOf y)) expected

@@ -1,0 +1,170 @@
+-- Index memory that holds the entries a graph determines: it passes check 12 and answers rightly, and no entry can be struck out of it.
+use mathlib.Core.Path.{_≡_, refl, sym, ap, _∙_}
+use mathlib.Core.Logic.{_↔_}
+use mathlib.Core.Bool.{Bool, true, false}
+use mathlib.Core.List.{List, [], _∷_, _++_, append-assoc, append-nil, List·Memᴰ·head, List·Memᴰ·tail}
+use Prim.Native.Nat.{ℕ, zero, suc, _+_, _*_, _-_, _/_, _%_, _≤_, _<_}
+use native.Mathlib.Omega.{arith}
+use lib.Dec.{T, eqb}
+use lib.ListN.{length, replicate}
+use Rattle.model.specs.Lists.{_∈_, keep, none, next, Rising, filled}
+use Rattle.model.specs.Limits.{mostLongest}
+use Rattle.model.specs.Edges.{Graph, Small, zeros?, standing}
+use Rattle.model.specs.Patterns.{Keyed, keyed?, Pattern, codeFrom, code, minRepeat}
+use Rattle.model.specs.Walks.{Runs}
+use Rattle.model.specs.Order.{Names}
+use Rattle.model.specs.Entries.{entryOf, Asked, IsEntry, entries}
+use Rattle.model.specs.Query.{digits, code?, entry?, risingEntries?, indexMemory?, answers?}
+use Rattle.model.proofs.Tests.{test-and, test-eq, test-lt, test-true, test-false, test-yields}
+use Rattle.model.proofs.Lists.{keep-out, sorted-keep}
+use Rattle.model.proofs.Patterns.{Digits, test-keyed, test-own, code-below, min-repeat-unique, folded}
+use Rattle.model.proofs.Memory.{standing-filled}
+use Rattle.model.proofs.Entries.{entries-out, entries-rise}
+use Rattle.model.proofs.Renumber.{entry-fields}
+use Rattle.model.proofs.Query.{test-answers, right, struck-out}
+use Rattle.model.proofs.IndexMemory.{Valid, test-entry, Ordered, index-memory, answers-alone}
+use Rattle.demands.specs.Index.{Turned}
+
+not-zero : (x : ℕ) → 1 ≤ x → eqb x 0 ≡ false
+not-zero x h = test-false (test-eq x 0) (λ e. omega arith)
+
+-- ---- the digits of the code of a pattern are the pattern
+
+digits-more : (n a c : ℕ) → 1 ≤ c → c < 16 → digits (suc n) (a * 16 + c) ≡ digits n a ++ (c ∷ [])
+unfolding digits
+digits-more n a c h k =
+    let q : (a * 16 + c) / 16 ≡ a = omega arith in
+    let r : (a * 16 + c) % 16 ≡ c = omega arith in
+    rw (not-zero (a * 16 + c) (omega arith), q, r) refl
+
+digits-from : (n a : ℕ) (l : List ℕ) (m : ℕ) → m ≡ n + length l → Digits l → digits m (codeFrom a l) ≡ digits n a ++ l
+unfolding codeFrom
+digits-from n a [] m e d = let q : m ≡ n = omega arith in rw q (sym (append-nil (digits n a)))
+digits-from n a (c ∷ l) m e d =
+    let h = d c (List·Memᴰ·head refl) in
+    digits-from (suc n) (a * 16 + c) l m (omega arith) (λ x k. d x (List·Memᴰ·tail k))
+    ∙ ap (λ (f : List ℕ). f ++ l) (digits-more n a c (h .0) (omega arith)) ∙ append-assoc (digits n a) (c ∷ []) l
+
+digits-zero : (n : ℕ) → digits n 0 ≡ []
+unfolding digits
+digits-zero zero = refl
+digits-zero (suc n) = refl
+
+digits-code : {l : List ℕ} → length l ≤ mostLongest → Digits l → digits mostLongest (code l) ≡ l
+digits-code {l} h d =
+    digits-from (mostLongest - length l) 0 l mostLongest (omega arith) d ∙ ap (λ (f : List ℕ). f ++ l) (digits-zero (mostLongest - length l))
+
+code-passes : {k : ℕ} {l : List ℕ} → k ≤ mostLongest → Pattern k l → T (code? k (code l))
+unfolding code?
+code-passes {k} {l} h p =
+    let q : digits mostLongest (code l) ≡ l = digits-code (omega (arith, p .keyed .short)) (p .keyed .labels) in
+    rw q ((test-and (test-keyed k l) (test-own l (p .keyed .long))) .passes (p .keyed, p .own))
+
+-- ---- each determined entry passes check 12
+
+number-valid : {n k : ℕ} {l : List ℕ} (side a b x : ℕ) → n ≤ 256 → k ≤ mostLongest → side < 2 → a < n → b < n → Pattern k l
+    → x ≡ entryOf side a b (code l) → Valid n k x
+number-valid {n} {k} {l} side a b x small short hs ha hb p e =
+    let (f, q, r, c) = entry-fields side a b (code l) (omega arith) (omega arith) (code-below short (p .keyed)) in
+    rw e (record { side = rw f hs; owner = rw q ha; hub = rw r hb; coded = rw c (code-passes short p) })
+
+is-valid : (g : Graph) {order : List ℕ} {x : ℕ} → Small g → IsEntry g order x → Valid (g .vertices) (g .longest) x
+is-valid g {x = x} small (IsEntry.out s t l q a e) =
+    number-valid 0 s t x (small .vertices-small) (small .longest-small) (omega arith) (q .from) (q .to) (q .pattern) e
+is-valid g {x = x} small (IsEntry.into s t l q a d e) =
+    number-valid 1 t s x (small .vertices-small) (small .longest-small) (omega arith) (q .to) (q .from) (q .pattern) e
+
+pub entry-valid : (g : Graph) (order : List ℕ) → Small g → (x : ℕ) → x ∈ entries g order → entry? (g .vertices) (g .longest) x ≡ true
+entry-valid g order small x m = test-true (test-entry (g .vertices) (g .longest) x) (is-valid g small (entries-out g order small m))
+
+-- ---- rising entries and then zeros pass check 12
+
+-- 0 is the number of no entry: its code has no digits
+not-coded : (k : ℕ) → T (code? k 0) → ⊥
+unfolding code? digits keyed?
+not-coded k t = t
+
+entry-some : (n k x : ℕ) → entry? n k x ≡ true → 1 ≤ x
+entry-some n k zero e = absurd (not-coded k (test-yields (test-entry n k 0) e .coded))
+entry-some n k (suc x) e = omega arith
+
+zeros-zeros : (m : ℕ) → zeros? (replicate m 0) ≡ true
+unfolding zeros?
+zeros-zeros zero = refl
+zeros-zeros (suc m) = zeros-zeros m
+
+module _ (vertices longest : ℕ) where
+  none-left : (prev m : ℕ) → risingEntries? vertices longest prev (replicate m 0) ≡ true
+  unfolding risingEntries?
+  none-left prev zero = refl
+  none-left prev (suc m) = zeros-zeros m
+
+  rising-zeros : {l : List ℕ} (prev m : ℕ) → Rising l → ((x : ℕ) → x ∈ l → (prev < x) × (entry? vertices longest x ≡ true))
+      → risingEntries? vertices longest prev (l ++ replicate m 0) ≡ true
+  unfolding risingEntries?
+  rising-zeros prev m none f = none-left prev m
+  rising-zeros prev m (next {x = x} h s) f =
+      let (a, b) = f x (List·Memᴰ·head refl) in
+      rw (not-zero x (omega arith), test-true (test-lt prev x) a, b) (rising-zeros x m s (λ z k. (h z k, f z (List·Memᴰ·tail k) .1)))
+
+  -- for any such entries, so also for what is left where some are struck out and the others closed up
+  pub memory-passes : (slots : ℕ) (l : List ℕ) → Rising l → ((x : ℕ) → x ∈ l → entry? vertices longest x ≡ true)
+      → indexMemory? vertices longest (filled slots l) ≡ true
+  unfolding indexMemory?
+  memory-passes slots l s f = rising-zeros 0 (slots - length l) s (λ x m. (entry-some vertices longest x (f x m), f x m))
+
+  -- such memory answers as its entries do
+  memory-answers : (slots : ℕ) (l : List ℕ) → Rising l → ((x : ℕ) → x ∈ l → entry? vertices longest x ≡ true)
+      → {k : ℕ} {pattern : List ℕ} → Keyed k pattern → (s t : ℕ)
+      → answers? vertices (filled slots l) pattern s t ≡ answers? vertices l pattern s t
+  memory-answers slots l rise f p s t =
+      let e : standing (filled slots l) ≡ l = standing-filled slots l (λ x m. entry-some vertices longest x (f x m)) in
+      let o : Ordered vertices longest 0 (filled slots l) (standing (filled slots l)) =
+      index-memory vertices longest (filled slots l) (memory-passes slots l rise f) in
+      sym (answers-alone (rw e at o) p s t)
+
+-- ---- what the memory of a graph answers, whole and with entries struck out
+
+module _ (g : Graph) (order : List ℕ) (small : Small g) (slots : ℕ) where
+  pub whole-passes : indexMemory? (g .vertices) (g .longest) (filled slots (entries g order)) ≡ true
+  whole-passes = memory-passes (g .vertices) (g .longest) slots (entries g order) (entries-rise g order small) (entry-valid g order small)
+
+  pattern-right : {l : List ℕ} {s t : ℕ} → Asked g l s t
+      → (answers? (g .vertices) (filled slots (entries g order)) l s t ≡ true) ↔ Runs g l s t
+  pattern-right {l} {s} {t} q =
+      let tests = test-answers (g .vertices) (entries g order) l s t in
+      let same = memory-answers (g .vertices) (g .longest) slots (entries g order) (entries-rise g order small) (entry-valid g order small)
+      (q .pattern .keyed) s t in (
+        λ e. right g order small q .0 (test-yields tests (sym same ∙ e)),
+        λ r. same ∙ test-true tests (right g order small q .1 r),
+      )
+
+  -- a question, once its pattern is folded, is answered yes where a walk runs it, and there alone
+  pub answer-right : {pattern : List ℕ} {start destination : ℕ} → start < g .vertices → destination < g .vertices → Keyed (g .longest) pattern
+      → (answers? (g .vertices) (filled slots (entries g order)) (minRepeat pattern) start destination ≡ true)
+      ↔ Runs g (minRepeat pattern) start destination
+  answer-right hs ht p = pattern-right (record { from = hs; to = ht; pattern = folded p })
+
+  -- entries struck out, the others closed up and zeros behind (f says which are kept, e is one that is not): some right yes becomes a no
+  pub struck-answer : Names (g .vertices) order → (f : ℕ → Bool) (e : ℕ) → e ∈ entries g order → ¬ T (f e)
+      → Turned g (filled slots (entries g order)) (filled slots (keep f (entries g order)))
+  struck-answer names f e m gone =
+      let lost = struck-out g order small names f e m gone in
+      let p = lost .asked .pattern in
+      let own : minRepeat (lost .pattern) ≡ lost .pattern = min-repeat-unique (lost .pattern) (lost .pattern) (p .keyed .long) (p .own) in
+      let rise : Rising (keep f (entries g order)) = sorted-keep f (entries-rise g order small) in
+      let valid : (x : ℕ) → x ∈ keep f (entries g order) → entry? (g .vertices) (g .longest) x ≡ true
+      = λ x k. entry-valid g order small x (keep-out f (entries g order) k .0) in
+      let same = memory-answers (g .vertices) (g .longest) slots (keep f (entries g order)) rise valid (p .keyed) (lost .start) (lost .destination) in
+      let tests = test-answers (g .vertices) (keep f (entries g order)) (lost .pattern) (lost .start) (lost .destination) in
+      record {
+        passes = memory-passes (g .vertices) (g .longest) slots (keep f (entries g order)) rise valid;
+        pattern = lost .pattern;
+        start = lost .start;
+        destination = lost .destination;
+        asked = lost .asked;
+        own = own;
+        runs = lost .runs;
+        yes-before = rw own (pattern-right (lost .asked) .1 (lost .runs));
+        no-after = rw own (same ∙ test-false tests (lost .answered-no));
+      }
