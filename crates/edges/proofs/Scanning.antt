@@ -1,4 +1,4 @@
--- The loops of `all_zero` and of check 3: the slots from i on say what all of them say.
+-- The loop of check 3: the slots from i on say what all of them say.
 use mathlib.Core.Path.{_≡_, sym, ap, _∙_}
 use mathlib.Core.Bool.{Bool, true, false, cond}
 use mathlib.Core.List.{List}
@@ -17,19 +17,6 @@ use Rattle.edges.specs.declared.Scanned.the-variants.{Edges, Invalid}
 -- what check 3 finds where i edges stand before s, the last of them prev
 unfoldable pub scanFrom : ℕ → ℕ → ℕ → List ℕ → Scanned
 scanFrom vertices prev i s = cond (risingEdges? vertices prev s) (Edges (i + length (standing s))) Invalid
-
-module _ (s : List ℕ) (i : ℕ) where
-  pub zeros-stop : i < length s → (getD s i 0 ≡ 0 → ⊥) → zeros? (drop i s) ≡ false
-  unfolding zeros?
-  zeros-stop h n = rw (drop-cons s i 0, ne-eqb (getD s i 0) 0 n)
-
-  pub zeros-more : i < length s → getD s i 0 ≡ 0 → zeros? (drop (i + 1) s) ≡ zeros? (drop i s)
-  unfolding zeros?
-  zeros-more h e = rw (add-one, drop-cons s i 0, eq-eqb (getD s i 0) 0 e)
-
-  pub zeros-end : length s ≤ i → zeros? (drop i s) ≡ true
-  unfolding zeros?
-  zeros-end h = rw (drop-of-length-le s h)
 
 module _ (vertices prev : ℕ) (s : List ℕ) (i : ℕ) where
   -- b is what `all_zero(&s[i..])` returns

@@ -5,7 +5,7 @@ use native.Mathlib.Omega.{arith}
 use borrow.Author.Needs.{needs}
 use lib.ListN.{length, drop}
 use Rattle.model.specs.Edges.{zeros?}
-use Rattle.edges.proofs.Scanning.{zeros-stop, zeros-more, zeros-end}
+use Rattle.model.proofs.Zeros.{zeros-stop, zeros-more, zeros-end}
 use Rattle.edges.proofs.all_zero.Statement.{statement}
 use Rattle.edges.proofs.all_zero.Tie as tie
 
