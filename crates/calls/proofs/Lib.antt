@@ -1,3 +1,4 @@
 pub mod Checks
 pub mod Search
 pub mod Query
+pub mod Change

@@ -1,3 +1,5 @@
 pub mod Checks
 pub mod Search
 pub mod Query
+pub mod Change
+pub mod Card

@@ -1,0 +1,114 @@
+-- Laws of the changing calls: checks one after another, what a refusal leaves, and what settling comes to.
+use mathlib.Core.Path.{_≡_, refl, sym, ap, _∙_}
+use mathlib.Core.Bool.{Bool, true, false}
+use mathlib.Core.List.{List, [], _∷_, _++_}
+use Prim.Native.Nat.{ℕ, zero, suc, _≤_, _<_}
+use native.Mathlib.Omega.{arith}
+use lib.Dec.{T, leb}
+use lib.ListN.{length}
+use Rattle.model.specs.Lists.{all?, filled, zeroed}
+use Rattle.model.specs.Replies.{numberOf, answerOf}
+use Rattle.model.specs.Entries.{determined}
+use Rattle.model.specs.declared.Refusal.{Refusal}
+use Rattle.model.specs.declared.Answer.{Answer}
+use Rattle.model.specs.declared.Answer.the-variants.{Accepted, Refused}
+use Rattle.model.specs.declared.Refusal.the-variants.{IndexSlots}
+use Rattle.model.proofs.Tests.{test-le, test-true, test-false}
+use Rattle.model.proofs.Replies.{number-some}
+use Rattle.calls.specs.Checks.{Check, firstRefusal}
+use Rattle.calls.specs.Change.{Header, graphOf, Memory, Handed, back, Change, changedWith, Leaves, fits?, settle}
+
+-- ---- checks, and then further ones
+
+-- every check has a number above 0
+abbrev pub numbered? : List Check → Bool
+numbered? [] = true
+numbered? ((zero, b) ∷ l) = false
+numbered? ((suc n, b) ∷ l) = numbered? l
+
+pub stop-first : (l later : List Check) {n : ℕ} → firstRefusal l ≡ n → 1 ≤ n → firstRefusal (l ++ later) ≡ n
+unfolding firstRefusal
+stop-first [] later e h = absurd (omega arith)
+stop-first ((n, true) ∷ l) later e h = stop-first l later e h
+stop-first ((n, false) ∷ l) later e h = e
+
+pub pass-first : (l later : List Check) → T (numbered? l) → firstRefusal l ≡ 0 → firstRefusal (l ++ later) ≡ firstRefusal later
+unfolding firstRefusal
+pass-first [] later q e = refl
+pass-first ((zero, b) ∷ l) later q e = absurd q
+pass-first ((suc n, true) ∷ l) later q e = pass-first l later q e
+pass-first ((suc n, false) ∷ l) later q e = absurd (omega arith)
+
+-- ---- what a call leaves
+
+pub change-refused : (n : ℕ) (given : Handed) (m : Memory) (c : Change) (r : Refusal) → n ≡ numberOf r
+    → Leaves (changedWith n given m c) (Refused r) (m .edges) (m .index) (m .work)
+change-refused zero given m c r e = absurd (let h = number-some r in omega arith)
+change-refused (suc n) given m c r e = record { answer = sym e; edges-after = refl; index-after = refl; work-after = refl }
+
+pub change-accepted : (n : ℕ) (given : Handed) (m : Memory) (c : Change) → n ≡ 0 → changedWith n given m c ≡ c
+change-accepted zero given m c e = refl
+change-accepted (suc n) given m c e = absurd (omega arith)
+
+-- ---- settling
+
+-- the record that is handed back with an answer: the new one where it accepts, else the one given
+abbrev pub handedBy : Answer → Handed → Header → Handed
+handedBy Accepted given h = back h
+handedBy (Refused r) given h = given
+
+module _ (given : Handed) (h : Header) (wanted : List ℕ) (m : Memory) where
+  pub settle-fits : length (determined (graphOf h wanted)) ≤ length (m .index) → {edges index work : List ℕ}
+      → edges ≡ filled (length (m .edges)) wanted → index ≡ filled (length (m .index)) (determined (graphOf h wanted)) → work ≡ zeroed (m .work)
+      → Leaves (settle given h wanted m) Accepted edges index work
+  unfolding settle
+  settle-fits l a b c = rw (fit l) (record { answer = refl; edges-after = a; index-after = b; work-after = c })
+    where
+      fit : length (determined (graphOf h wanted)) ≤ length (m .index) → fits? h wanted m ≡ true
+      fit l = test-true (test-le (length (determined (graphOf h wanted))) (length (m .index))) l
+
+  pub settle-short : length (m .index) < length (determined (graphOf h wanted)) → {work : List ℕ} → work ≡ zeroed (m .work)
+      → Leaves (settle given h wanted m) (Refused IndexSlots) (m .edges) (m .index) work
+  unfolding settle
+  settle-short l c = rw short (record { answer = refl; edges-after = refl; index-after = refl; work-after = c })
+    where
+      short : fits? h wanted m ≡ false
+      short = test-false (test-le (length (determined (graphOf h wanted))) (length (m .index))) (λ z. omega (arith, z, l))
+
+  pub settle-hands : (r : Answer) → answerOf r ≡ settle given h wanted m .answer → settle given h wanted m .handed ≡ handedBy r given h
+  unfolding settle
+  settle-hands r e = go (fits? h wanted m) refl r e
+    where
+      go : (b : Bool) → fits? h wanted m ≡ b → (r : Answer) → answerOf r ≡ settle given h wanted m .answer
+          → settle given h wanted m .handed ≡ handedBy r given h
+      go true q Accepted e = rw q refl
+      go true q (Refused r) e = absurd (let a = number-some r in let z : numberOf r ≡ 0 = rw q at e in omega arith)
+      go false q Accepted e = absurd (let z : 0 ≡ 13 = rw q at e in omega arith)
+      go false q (Refused r) e = rw q refl
+
+-- what it leaves does not depend on the record given, nor on what work memory holds
+pub settle-same : (given given′ : Handed) (h : Header) (wanted : List ℕ) (m m′ : Memory) {r : Answer} {edges index work : List ℕ}
+    → m .edges ≡ m′ .edges → m .index ≡ m′ .index → length (m .work) ≡ length (m′ .work)
+    → Leaves (settle given h wanted m) r edges index work → Leaves (settle given′ h wanted m′) r edges index work
+unfolding settle
+settle-same given given′ h wanted m m′ {r} {edges} {index} {work} a b c v = go (fits? h wanted m) refl
+  where
+    go : (t : Bool) → fits? h wanted m ≡ t → Leaves (settle given′ h wanted m′) r edges index work
+    go true q =
+        let q′ : fits? h wanted m′ ≡ true = rw (sym b) q in
+        let v′ = rw q at v in
+        rw q′ (record {
+          answer = v′ .answer;
+          edges-after = rw (sym a) (v′ .edges-after);
+          index-after = rw (sym b) (v′ .index-after);
+          work-after = rw (sym c) (v′ .work-after);
+        })
+    go false q =
+        let q′ : fits? h wanted m′ ≡ false = rw (sym b) q in
+        let v′ = rw q at v in
+        rw q′ (record {
+          answer = v′ .answer;
+          edges-after = rw (sym a) (v′ .edges-after);
+          index-after = rw (sym b) (v′ .index-after);
+          work-after = rw (sym c) (v′ .work-after);
+        })

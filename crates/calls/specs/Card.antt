@@ -1,0 +1,124 @@
+-- The layout card (document 01): its bytes, and reading and writing it as calls on lent memory.
+use mathlib.Core.Path.{_≡_}
+use mathlib.Core.Bool.{Bool, true, false, _&&_}
+use mathlib.Core.List.{List, [], _∷_, _++_}
+use Prim.Native.Nat.{ℕ, zero, suc, _+_, _-_, _*_, _/_, _%_, _<_}
+use lib.Dec.{eqb, ltb, leb}
+use lib.ListN.{length, getD, take, drop}
+use Rattle.model.specs.Lists.{_∈_, same?, spread}
+use Rattle.model.specs.Limits.{mostEdges}
+use Rattle.model.specs.Edges.{edgeNumber, fromOf, labelOf, toOf, label?, edgeMemory?, standing}
+use Rattle.calls.specs.Checks.{vertices?, longest?, ends?, Check, firstRefusal}
+use Rattle.calls.specs.Change.{Header, Memory, back, none, Change, changedWith, buildRoom?, settle}
+
+-- a byte is below 256
+abbrev pub Bytes : List ℕ → Type 0
+Bytes l = (x : ℕ) → x ∈ l → x < 256
+
+-- "the mark PRC"
+abbrev pub mark : List ℕ
+mark = 80 ∷ 82 ∷ 67 ∷ []
+
+-- "16-bit numbers have the high byte first."
+abbrev pub wordBytes : ℕ → List ℕ
+wordBytes n = n / 256 ∷ n % 256 ∷ []
+
+abbrev pub wordAt : List ℕ → ℕ → ℕ
+wordAt bytes i = getD bytes i 0 * 256 + getD bytes (suc i) 0
+
+-- mark, version, places less one, k and leg count are 9 bytes; each leg is 3
+abbrev pub headBytes : ℕ
+headBytes = 9
+
+-- "then from, colour, to for each leg in rising order"
+abbrev pub edgeBytes : ℕ → List ℕ
+edgeBytes x = fromOf x ∷ labelOf x ∷ toOf x ∷ []
+
+-- "Bytes: the mark PRC, a 16-bit version 1, places less one, k, a 16-bit leg count, then from, colour, to for each leg"
+unfoldable pub cardOf : Header → List ℕ → List ℕ
+cardOf h edges = mark ++ wordBytes 1 ++ ((h .vertices - 1) ∷ h .longest ∷ []) ++ wordBytes (length edges) ++ spread edgeBytes edges
+
+-- ---- what a card says
+
+-- "14 under 9 bytes or mark wrong"; "15 version"
+abbrev pub marked? : List ℕ → Bool
+marked? card = leb headBytes (length card) && same? (take 3 card) mark
+
+abbrev pub version? : List ℕ → Bool
+version? card = eqb (wordAt card 3) 1
+
+abbrev pub headerOf : List ℕ → Header
+headerOf card = record { vertices = getD card 5 0 + 1; longest = getD card 6 0 }
+
+abbrev pub countOf : List ℕ → ℕ
+countOf card = wordAt card 7
+
+-- the numbers of the legs named by bytes
+unfoldable pub edgesOf : List ℕ → List ℕ
+edgesOf [] = []
+edgesOf (from ∷ []) = []
+edgesOf (from ∷ label ∷ []) = []
+edgesOf (from ∷ label ∷ to ∷ more) = edgeNumber from label to ∷ edgesOf more
+
+-- those bytes name whole legs of a layout with so many places, rising from above prev. (Each byte is looked at as it stands: a number alone
+-- could be that of another leg.)
+unfoldable pub risingLegs? : ℕ → ℕ → List ℕ → Bool
+risingLegs? vertices prev [] = true
+risingLegs? vertices prev (from ∷ []) = false
+risingLegs? vertices prev (from ∷ label ∷ []) = false
+risingLegs? vertices prev (from ∷ label ∷ to ∷ more) =
+    (ends? vertices from to && label? label) && (ltb prev (edgeNumber from label to) && risingLegs? vertices (edgeNumber from label to) more)
+
+-- "16 length not 9 + 3 × legs, or legs not rising legs of this layout"
+unfoldable pub legs? : List ℕ → Bool
+legs? card = eqb (length card) (headBytes + 3 * countOf card) && risingLegs? (headerOf card .vertices) 0 (drop headBytes card)
+
+-- ---- reading
+
+-- what is checked of the card alone
+abbrev pub cardChecks : List ℕ → List Check
+cardChecks card = (14, marked? card) ∷ (15, version? card) ∷ (2, longest? (headerOf card .longest)) ∷ (16, legs? card) ∷ []
+
+unfoldable pub cardRefusal : List ℕ → ℕ
+cardRefusal card = firstRefusal (cardChecks card)
+
+-- "Read card 14 15 2 16 3 9 4 13"
+unfoldable pub readRefusal : List ℕ → Memory → ℕ
+readRefusal card m =
+    firstRefusal (
+    cardChecks card
+    ++ ((3, leb (length (m .edges)) mostEdges) ∷ (9, leb (countOf card) (length (m .edges))) ∷ (4, buildRoom? m) ∷ [])
+    )
+
+-- "Reading a card fills leg and index memory as if a fresh layout had received those legs; 13 looks at the finished index only."
+unfoldable pub readCall : List ℕ → Memory → Change
+readCall card m = changedWith (readRefusal card m) none m (settle none (headerOf card) (edgesOf (drop headBytes card)) m)
+
+-- ---- writing
+
+-- "Write card 1 2 3 17"
+unfoldable pub writeRefusal : (h : Header) (edges output : List ℕ) → ℕ
+writeRefusal h edges output =
+    firstRefusal (
+    (1, vertices? (h .vertices))
+    ∷ (2, longest? (h .longest))
+    ∷ (3, edgeMemory? (h .vertices) edges)
+    ∷ (17, leb (headBytes + 3 * length (standing edges)) (length output))
+    ∷ []
+    )
+
+-- the card's length, or the number of the refusal, and the output afterwards
+pub data Wrote : Type 0 where
+  Length Refused : ℕ → Wrote
+
+pub record Written : Type 0 where
+  pub reply : Wrote
+  pub output : List ℕ
+
+abbrev pub writtenWith : ℕ → List ℕ → List ℕ → Written
+writtenWith zero card output = record { reply = Length (length card); output = card ++ drop (length card) output }
+writtenWith (suc n) card output = record { reply = Refused (suc n); output = output }
+
+-- "A written card touches only its own length of the output, and its length is returned."
+unfoldable pub writeCall : (h : Header) (edges output : List ℕ) → Written
+writeCall h edges output = writtenWith (writeRefusal h edges output) (cardOf h (standing edges)) output
