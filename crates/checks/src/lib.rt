@@ -1,14 +1,17 @@
-// The checks that calls share and that no other crate owns: the record (1 and 2), and start and destination (10).
+// The checks that calls share and that no other crate owns: the record (1 and 2), ends (5 and 10), and a label (6).
 use model::Answer;
 use model::Refusal;
 ghost use mathlib.Core.Path.{_≡_};
 ghost use mathlib.Core.Bool.{Bool};
 ghost use Rattle.model.specs.Replies.{answerOf};
-ghost use Rattle.calls.specs.Checks.{headerRefusal, ends?};
+ghost use Rattle.model.specs.Edges.{label?};
+ghost use Rattle.calls.specs.Checks.{headerRefusal, longest?, ends?};
 
 const MOST_VERTICES: u32 = 256;
 
 const MOST_LONGEST: u32 = 4;
+
+const MOST_LABEL: u32 = 8;
 
 // Checks 1 and 2: vertices 1 to 256, longest pattern 1 to 4.
 pub fn check_header(vertices: u32, longest: u32) -> Answer
@@ -29,7 +32,27 @@ pub fn check_header(vertices: u32, longest: u32) -> Answer
     Answer::Accepted
 }
 
-// Check 10: both ends of a query are vertices.
+// Check 2 alone, for a card, whose vertices are 1 to 256 in any case.
+pub fn is_longest(longest: u32) -> bool
+    ensures { λ r. ⌜ r ≡ longest? longest ⌝ }
+{
+    if longest < 1 {
+        return false;
+    }
+    longest <= MOST_LONGEST
+}
+
+// Check 6: a label is 1 to 8.
+pub fn is_label(label: u32) -> bool
+    ensures { λ r. ⌜ r ≡ label? label ⌝ }
+{
+    if label < 1 {
+        return false;
+    }
+    label <= MOST_LABEL
+}
+
+// Checks 5 and 10: both ends, of an edge or of a query, are vertices.
 pub fn are_vertices(vertices: u32, start: u32, destination: u32) -> bool
     ensures { λ r. ⌜ r ≡ ends? vertices start destination ⌝ }
 {
