@@ -118,9 +118,10 @@ module _ {edges slots w : List ℕ} {label starts code room cnt : ℕ} (p : Patt
             sources = λ x y h. starts-same x (h .from) ∙ g .sources x y (led-same x y .0 h);
           }
 
-      module _ (fits : r ≤ room) {w₃ : List ℕ} (t : Forth edges w₂ label w₃) where
-        pub forth-finishable : Finishable w₃ starts 1 code room r
-        forth-finishable =
+      module _ {w₃ : List ℕ} (t : Forth edges w₂ label w₃) where
+        -- on either side, and behind any number of entries that fits
+        pub forth-finishable : {side n : ℕ} → side < 2 → n ≤ room → Finishable w₃ starts side code room n
+        forth-finishable side-small count =
             let g = p .fillable in
             record {
               least = g .least;
@@ -129,9 +130,9 @@ module _ {edges slots w : List ℕ} {label starts code room cnt : ℕ} (p : Patt
               not-todo = λ e. omega (arith, g .most);
               not-picked = λ e. omega (arith, g .most);
               starts = λ x y s. kept x (s .from) ∙ forth-fillable .sources x y (t .only x y s);
-              side-small = omega arith;
+              side-small = side-small;
               code-small = p .code-small;
-              count = fits;
+              count = count;
               room = omega (arith, p .room-there, back-spared .len, t .keeps .len);
             }
           where
@@ -139,8 +140,8 @@ module _ {edges slots w : List ℕ} {label starts code room cnt : ℕ} (p : Patt
             kept = same-row w₂ w₃ starts (λ k l. t .keeps .same (starts * 4 + k)
                 (⊎-elim (λ q. omega (arith, p .fillable .least)) (λ q. omega (arith, p .fillable .most))))
 
-        pub patterned : {w₄ : List ℕ} {r′ : ℕ} → Finished w₃ 1 code room r w₄ r′ → Patterned edges w label code room cnt w₄ r′
-        patterned {w₄} {r′} z =
+        pub patterned : {w₄ : List ℕ} {r′ : ℕ} → r ≤ room → Finished w₃ 1 code room r w₄ r′ → Patterned edges w label code room cnt w₄ r′
+        patterned {w₄} {r′} fits z =
             record {
               spared = spared-then back-spared (record {
                 len = z .spared .len ∙ t .keeps .len;

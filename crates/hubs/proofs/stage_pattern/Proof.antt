@@ -1,5 +1,6 @@
 -- `hubs::stage_pattern` meets its contract: the out entries, and then the in entries.
 use borrow.Author.Needs.{needs}
+use native.Mathlib.Omega.{arith}
 use Rattle.hubs.proofs.Patterning.{back-finishable, patterned-over, forth-fillable, forth-finishable, patterned}
 use Rattle.hubs.proofs.stage_pattern.Statement.{statement}
 use Rattle.hubs.proofs.stage_pattern.Tie as tie
@@ -37,8 +38,9 @@ finish-requires-2 c κs =
     (back .before .before .before .before .before .pre)
     (back .fill-back .ensures)
     (outs .finish .ensures)
-    (fits .if1 .left)
     (forth .fill-forth .ensures)
+    (omega arith)
+    (omega (arith, fits .if1 .left, back .before .before .before .before .before .pre .count))
 
 same-length-2 : tie.Need-same-length-2
 same-length-2 c = search needs
@@ -54,8 +56,8 @@ returns-2 c =
     (back .before .before .before .before .before .pre)
     (back .fill-back .ensures)
     (outs .finish .ensures)
-    (fits .if1 .left)
     (forth .fill-forth .ensures)
+    (fits .if1 .left)
     (ins .finish2 .ensures)
 
 pub stage-pattern-spec : {M : Type 1} → statement M
