@@ -31,7 +31,7 @@ same-length c = c .before .before .loop .inv .adds .len
 returns : tie.Need-returns Inv-loop μ-loop
 returns c =
     let turn = c .before in
-    owners-over (turn .before .before .before .before .before .pre) (turn .before .loop .inv) (turn .loop-test .taken) (c .if1 .taken)
+    owners-over (turn .before .before .before .before .before .pre) (turn .before .loop .inv) (omega (arith, turn .loop-test .taken)) (c .if1 .taken)
 
 mul-w : tie.Need-mul-w Inv-loop μ-loop
 mul-w c = omega arith
@@ -75,13 +75,13 @@ loop-less c = omega arith
 loop-again : tie.Need-loop-again Inv-loop μ-loop
 loop-again c =
     let turn = c .before .before .before in
-    owners-more (turn .before .before .before .before .before .pre) (turn .before .loop .inv) (turn .loop-test .taken) (c .before .before .if1 .left) (c .next2 .ensures)
+    owners-more (turn .before .before .before .before .before .pre) (turn .before .loop .inv) (omega (arith, turn .loop-test .taken)) (c .before .before .if1 .left) (c .next2 .ensures)
 
 same-length-2 : tie.Need-same-length-2 Inv-loop μ-loop
 same-length-2 c = c .before .loop .inv .adds .len
 
 returns-2 : tie.Need-returns-2 Inv-loop μ-loop
-returns-2 c = owners-all (c .loop-test .left) (c .before .loop .inv)
+returns-2 c = owners-all (omega (arith, c .loop-test .left)) (c .before .loop .inv)
 
 pub emit-spec : {M : Type 1} → statement M
 emit-spec =

@@ -52,7 +52,7 @@ returns c =
     picks-since
     (join .join .ensures)
     (picks-none
-    (turn .loop-test .taken)
+    (omega (arith, turn .loop-test .taken))
     (join .before .before .before .pre .0)
     (turn .before .loop .inv)
     (less .less .ensures)
@@ -73,7 +73,7 @@ loop-again c =
     let less = c .before .before .before .before .before .before .before in
     let turn = less .before .before in
     struck-more
-    (turn .loop-test .taken)
+    (omega (arith, turn .loop-test .taken))
     (turn .before .before .before .before .before .before .before .before .before .pre .0)
     (turn .before .loop .inv)
     (less .less .ensures)
@@ -83,7 +83,7 @@ same-length-2 : tie.Need-same-length-2 Inv-loop μ-loop
 same-length-2 c = c .before .loop .inv .picked .len ∙ c .before .before .before .before .before .before .join .ensures .len
 
 returns-2 : tie.Need-returns-2 Inv-loop μ-loop
-returns-2 c = picks-since (c .before .before .before .before .before .before .join .ensures) (picks-all (c .loop-test .left) (c .before .loop .inv))
+returns-2 c = picks-since (c .before .before .before .before .before .before .join .ensures) (picks-all (omega (arith, c .loop-test .left)) (c .before .loop .inv))
 
 pub pick-spec : {M : Type 1} → statement M
 pick-spec =

@@ -28,14 +28,14 @@ loop-holds : tie.Need-loop-holds Inv-loop μ-loop
 loop-holds c = hubs-none (c .before .before .before .pre) (c .next .ensures)
 
 pick-requires : tie.Need-pick-requires Inv-loop μ-loop
-pick-requires c κs = (c .before .loop-test .taken, omega arith)
+pick-requires c κs = (omega (arith, c .before .loop-test .taken), omega arith)
 
 emit-requires : tie.Need-emit-requires Inv-loop μ-loop
 emit-requires c κs =
     let pre = c .before .before .before .before .before .before .before .before .before .before .pre in
     let inv = c .before .before .before .before .before .before .loop .inv in
     record {
-      vertex = c .before .before .before .before .before .loop-test .taken;
+      vertex = omega (arith, c .before .before .before .before .before .loop-test .taken);
       side-small = pre .side-small;
       code-small = pre .code-small;
       count = inv .fits;
@@ -52,7 +52,7 @@ returns c =
     hubs-over
     (turn .before .before .before .before .before .pre)
     (turn .before .loop .inv)
-    (turn .loop-test .taken)
+    (omega (arith, turn .loop-test .taken))
     (emit .before .before .before .before .pick .ensures)
     (emit .emit .ensures)
     (c .if1 .taken)
@@ -77,7 +77,7 @@ loop-again c =
     hubs-more
     (turn .before .before .before .before .before .pre)
     (turn .before .loop .inv)
-    (turn .loop-test .taken)
+    (omega (arith, turn .loop-test .taken))
     (emit .before .before .before .before .pick .ensures)
     (emit .emit .ensures)
     (c .before .before .if1 .left)
@@ -87,7 +87,7 @@ same-length-2 : tie.Need-same-length-2 Inv-loop μ-loop
 same-length-2 c = c .before .loop .inv .outcome .len
 
 returns-2 : tie.Need-returns-2 Inv-loop μ-loop
-returns-2 c = hubs-all (c .loop-test .left) (c .before .loop .inv)
+returns-2 c = hubs-all (omega (arith, c .loop-test .left)) (c .before .loop .inv)
 
 pub stage-spec : {M : Type 1} → statement M
 stage-spec =
