@@ -1,5 +1,6 @@
 -- `closure::take_in` meets its contract.
 use borrow.Author.Needs.{needs}
+use native.Mathlib.Omega.{arith}
 use Rattle.closure.specs.Turns.{Taken}
 use Rattle.closure.proofs.Apart.{taken-one, taken-row}
 use Rattle.closure.proofs.take_in.Statement.{statement}
@@ -29,7 +30,7 @@ returns : tie.Need-returns
 returns c =
     let branch = c .before .before .before .before in
     let start = branch .before .before .before .before .before .before .before .before .before .before in
-    taken-row (start .pre .0) (start .pre .1 .0) (branch .if1 .taken) (taken (branch .before)) (c .before .before .less .ensures)
+    taken-row (start .pre .0) (start .pre .1 .0) (omega (arith, branch .if1 .taken)) (taken (branch .before)) (c .before .before .less .ensures)
 
 same-length-2 : tie.Need-same-length-2
 same-length-2 c = search needs

@@ -31,7 +31,7 @@ same-length c = c .before .before .loop .inv .adds .len
 returns : tie.Need-returns Inv-loop μ-loop
 returns c =
     let turn = c .before in
-    owners-over (turn .before .before .before .before .before .pre) (turn .before .loop .inv) (omega (arith, turn .loop-test .taken)) (c .if1 .taken)
+    owners-over (turn .before .before .before .before .before .pre) (turn .before .loop .inv) (omega (arith, turn .loop-test .taken)) (omega (arith, c .if1 .taken))
 
 mul-w : tie.Need-mul-w Inv-loop μ-loop
 mul-w c = omega arith
