@@ -35,7 +35,8 @@ fn lead(edges: &[u32], slots: &[usize], v: usize, label: u32, w: &mut [u64], r: 
         if end <= x {
             return;
         }
-        rows::mark(w, r, (x - key) as usize);
+        let y = (x - key) as usize;
+        rows::mark(w, r, y);
         i += 1;
     }
 }

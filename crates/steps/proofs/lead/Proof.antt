@@ -54,14 +54,17 @@ same-length c = c .before .before .before .loop .inv .gains .len
 returns : tie.Need-returns Inv-loop μ-loop
 returns c = lead-all (run-all (c .before .before .before .loop .inv) (c .before .before .before .before .before .before .before .before .before .pre .0 .edged .rises) (λ _. c .if1 .taken))
 
-sub-mark : tie.Need-sub-mark Inv-loop μ-loop
-sub-mark c = run-low (c .before .before .before .before .loop .inv) (c .before .before .before .loop-test .taken)
+sub-y : tie.Need-sub-y Inv-loop μ-loop
+sub-y c = run-low (c .before .before .before .loop .inv) (c .before .before .loop-test .taken)
 
-cast-mark : tie.Need-cast-mark Inv-loop μ-loop
-cast-mark c = omega (arith, sub-mark c)
+cast-y : tie.Need-cast-y Inv-loop μ-loop
+cast-y c = omega (arith, sub-y c)
 
 mark-requires : tie.Need-mark-requires Inv-loop μ-loop
-mark-requires c κs = (has-kept (c .before .before .before .before .loop .inv .gains) (c .before .before .before .before .before .before .before .before .before .before .pre .1 .1 .1), omega (arith, sub-mark c, c .before .if1 .left))
+mark-requires c κs =
+    let turn = c .before .before .before .before in
+    let pre = turn .before .before .before .before .before .before .pre in
+    (has-kept (turn .loop .inv .gains) (pre .1 .1 .1), omega (arith, sub-y (c .before), c .before .if1 .left, pre .1 .0))
 
 add-i : tie.Need-add-i Inv-loop μ-loop
 add-i c = omega arith
@@ -97,8 +100,8 @@ lead-spec =
     shared-slice-read-x
     same-length
     returns
-    sub-mark
-    cast-mark
+    sub-y
+    cast-y
     mark-requires
     add-i
     loop-less

@@ -50,7 +50,7 @@ same-length : tie.Need-same-length Inv-loop μ-loop
 same-length c = c .before .loop .inv .gains .len ∙ c .before .before .before .before .before .before .clear .ensures .len
 
 returns : tie.Need-returns Inv-loop μ-loop
-returns c = step-all (λ e. omega (arith, c .before .before .before .before .before .before .before .before .before .before .before .pre .1 .1 .0)) (c .before .before .before .before .before .before .clear .ensures) (c .loop-test .left) (c .before .loop .inv)
+returns c = step-all (λ e. omega (arith, c .before .before .before .before .before .before .before .before .before .before .before .pre .1 .1 .0)) (c .before .before .before .before .before .before .clear .ensures) (omega (arith, c .loop-test .left)) (c .before .loop .inv)
 
 pub step-spec : {M : Type 1} → statement M
 step-spec =
