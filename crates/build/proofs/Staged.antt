@@ -7,7 +7,7 @@ use Prim.Native.Nat.{ℕ, _+_, _/_, _≤_, _<_}
 use native.Mathlib.Omega.{arith}
 use lib.ListN.{length, getD, take}
 use Rattle.model.specs.Lists.{_∈_, upTo}
-use Rattle.model.specs.Limits.{mostVertices, mostLabel, leastWork}
+use Rattle.model.specs.Limits.{mostVertices, mostLabel, mostLongest, leastWork}
 use Rattle.model.specs.Edges.{edge?, fromOf, labelOf}
 use Rattle.model.specs.Entries.{IsEntry}
 use Rattle.model.proofs.Suffixes.{Beyond}
@@ -41,11 +41,12 @@ module _ {vertices longest : ℕ} {edges order w : List ℕ} {room : ℕ} (s : S
       }
 
   module _ {slots w₁ : List ℕ} (h : Starts renumbered slots) (r : Rooted w 256 w₁) where
-    pub node-ready : Node renumbered slots (0 ∷ 0 ∷ 0 ∷ 0 ∷ []) w₁ 0 rootRow longest room 0
-    node-ready =
+    -- with any bound on the patterns' length
+    pub node-ready : {k : ℕ} → 1 ≤ k → k ≤ mostLongest → Node renumbered slots (0 ∷ 0 ∷ 0 ∷ 0 ∷ []) w₁ 0 rootRow k room 0
+    node-ready more most =
         record {
           ready = ready h;
-          chosen = record { size = refl; more = s .longest-least; most = s .longest-most; labels = none };
+          chosen = record { size = refl; more = more; most = most; labels = none };
           sourced = record {
             long = omega (arith, r .keeps .len, s .there);
             least = omega arith;

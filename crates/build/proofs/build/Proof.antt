@@ -1,5 +1,6 @@
 -- `build::build` meets its contract: the entries staged, and written where they fit.
 use borrow.Author.Needs.{needs}
+use native.Mathlib.Omega.{arith}
 use Rattle.build.proofs.Building.{order-front, stageable, builds-none, writable, builds-all}
 use Rattle.build.proofs.build.Statement.{statement}
 use Rattle.build.proofs.build.Tie as tie
@@ -13,7 +14,7 @@ same-length c = search needs
 returns : tie.Need-returns
 returns c =
     let stage = c .before .before .before in
-    builds-none (stage .before .before .before .before .before .before .pre) (stage .stage .ensures) (c .if1 .taken)
+    builds-none (stage .before .before .before .before .before .before .pre) (stage .stage .ensures) (omega (arith, c .if1 .taken))
 
 slice-aggregate-write-out : tie.Need-slice-aggregate-write-out
 slice-aggregate-write-out c =
@@ -24,7 +25,7 @@ write-out-requires : tie.Need-write-out-requires
 write-out-requires c κs =
     let fits = c .before .before .before in
     let stage = fits .before .before .before in
-    writable (stage .before .before .before .before .before .before .pre) (stage .stage .ensures) (fits .if1 .left)
+    writable (stage .before .before .before .before .before .before .pre) (stage .stage .ensures) (omega (arith, fits .if1 .left))
 
 same-length-2 : tie.Need-same-length-2
 same-length-2 c = search needs
@@ -37,7 +38,7 @@ returns-2 c =
     let write = c .before .before .before .before in
     let fits = write .before .before .before .before in
     let stage = fits .before .before .before in
-    builds-all (stage .before .before .before .before .before .before .pre) (stage .stage .ensures) (fits .if1 .left) (write .write-out .ensures)
+    builds-all (stage .before .before .before .before .before .before .pre) (stage .stage .ensures) (omega (arith, fits .if1 .left)) (write .write-out .ensures)
 
 pub build-spec : {M : Type 1} → statement M
 build-spec =

@@ -41,7 +41,14 @@ node-requires c κs =
     let root = c .before .before .before .before .before in
     let slots = root .before .before in
     let renumber = slots .before .before in
-    node-ready (renumber .before .before .before .before .pre) (renumber .renumber .ensures) (slots .first-slots .ensures) (root .root .ensures)
+    let pre = renumber .before .before .before .before .pre in
+    node-ready
+    pre
+    (renumber .renumber .ensures)
+    (slots .first-slots .ensures)
+    (root .root .ensures)
+    (omega (arith, pre .longest-least))
+    (omega (arith, pre .longest-most))
 
 same-length : tie.Need-same-length
 same-length c = search needs
