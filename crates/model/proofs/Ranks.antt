@@ -1,4 +1,5 @@
 -- Laws of ranks: an order that names each vertex once is known by its ranks, and in the counted order a rank is how many vertices come before.
+-- Before them, laws of counting by a test, and what a self-edge counts.
 use mathlib.Core.Path.{_≡_, refl, sym, ap, _∙_}
 use mathlib.Core.Logic.{_⊎_, inl, inr, ⊎-elim, _≢_}
 use mathlib.Core.Bool.{Bool, true, false, not}
@@ -11,8 +12,8 @@ use lib.Dec.{T, eqb}
 use lib.ListN.{length, getD, take}
 use lib.Seq.{getD-take, length-take-le, ext-getD}
 use Rattle.model.specs.Lists.{_∈_, put, keep, upTo, Sorted, none, next}
-use Rattle.model.specs.Edges.{Graph}
-use Rattle.model.specs.Order.{weight, Before, counted, rank, Names}
+use Rattle.model.specs.Edges.{Graph, bare, edgeNumber, fromOf, toOf}
+use Rattle.model.specs.Order.{outDegree, inDegree, weight, Before, counted, rank, Names}
 use Rattle.model.proofs.Tests.{Tests, test-true, test-false, test-not, test-eq}
 use Rattle.model.proofs.Lists.{keep-in, keep-out, up-to, below, length-from, rising-from, sorted-keep, sorted-imp, getD-in}
 use Rattle.model.proofs.Order.{not-both, rank-here, rank-there, rank-same, counted-sorted, counted-names}
@@ -51,6 +52,15 @@ module _ (f : ℕ → Bool) where
   unfolding keep
   keep-all [] h = refl
   keep-all (x ∷ l) h = keep-yes x l (h x (List·Memᴰ·head refl)) ∙ ap (λ m. x ∷ m) (keep-all l (λ z m. h z (List·Memᴰ·tail m)))
+
+-- an edge from v to itself counts on both sides
+pub self-edge : (n v c : ℕ) (edges : List ℕ) → v < 256 → c < 16 →
+    let g = bare n edges in
+    let h = bare n (edgeNumber v c v ∷ edges) in
+    (outDegree h v ≡ suc (outDegree g v)) × (inDegree h v ≡ suc (inDegree g v))
+self-edge n v c edges a b =
+    let x = edgeNumber v c v in
+    (ap length (keep-yes _ x edges (test-true (test-eq (fromOf x) v) (omega arith))), ap length (keep-yes _ x edges (test-true (test-eq (toOf x) v) (omega arith))))
 
 -- the elements other than x
 other : ℕ → ℕ → Bool
