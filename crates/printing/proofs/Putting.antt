@@ -1,0 +1,171 @@
+-- Laws of text written into lent bytes, and how long digits are.
+use mathlib.Core.Path.{_≡_, refl, sym, ap, _∙_}
+use mathlib.Core.Bool.{Bool, true, false, cond}
+use mathlib.Core.List.{List, [], _∷_, _++_, append-assoc, append-nil}
+use Prim.Native.Nat.{ℕ, zero, suc, _+_, _-_, _/_, _%_, _≤_, _<_}
+use native.Mathlib.Numerals.{add-one}
+use native.Mathlib.Omega.{arith}
+use borrow.Author.Tests.{lt-ltb, le-ltb}
+use lib.Dec.{ltb}
+use lib.ListN.{length, take, drop, getD, set, length-append, length-drop, take-append-drop, drop-of-length-le}
+use lib.Seq.{length-take-le, take-length, take-all, take-at, drop-at, drop-drop, set-split, take-suc}
+use Rattle.model.specs.Lists.{spread}
+use Rattle.model.specs.Limits.{sideUnit}
+use Rattle.model.specs.Query.{ownerOf, hubOf, codeOf}
+use Rattle.printing.specs.Puts.{Puts}
+use Rattle.printing.specs.Lines.{digits, number, colours, space, newline, outWord, inWord, sideLine, entryLine, placesWord, longestWord, legsWord, entriesWord, headerLine, refusedWord, refusedLine, listing}
+
+-- what is spread of one element more
+spread-snoc : (f : ℕ → List ℕ) (l : List ℕ) (x : ℕ) → spread f (l ++ (x ∷ [])) ≡ spread f l ++ f x
+unfolding spread
+spread-snoc f [] x = append-nil (f x)
+spread-snoc f (y ∷ l) x = ap (λ (m : List ℕ). f y ++ m) (spread-snoc f l x) ∙ sym (append-assoc (f y) (spread f l) (f x))
+
+pub puts-none : (out : List ℕ) (at : ℕ) → Puts out at [] out at
+puts-none out at = record { end = omega arith; bytes = sym (take-append-drop at out) }
+
+pub puts-byte : (out : List ℕ) (at x : ℕ) → at < length out → Puts out at (x ∷ []) (set out at x) (at + 1)
+puts-byte out at x h = record { end = refl; bytes = set-split out at x h ∙ (rw add-one) }
+
+-- a text copied into the part from `at` on
+pub puts-copied : (out text part : List ℕ) (at r : ℕ) → at + length text ≤ length out → r ≡ length text
+    → part ≡ take (length text) text ++ drop (length text) (take (length out - at) (drop at out))
+    → Puts out at text (take at out ++ (part ++ drop (length out - at) (drop at out))) (at + r)
+puts-copied out text part at r fits e p = record { end = omega arith; bytes = ap (λ (l : List ℕ). take at out ++ l) inner }
+  where
+    room : length (drop at out) ≤ length out - at
+    room = omega (arith, length-drop at out)
+
+    part-is : part ≡ text ++ drop (length text) (drop at out)
+    part-is = p ∙ ap (λ (l : List ℕ). l ++ drop (length text) (take (length out - at) (drop at out))) (take-length text) ∙ ap (λ (l : List ℕ). text ++ drop (length text) l) (take-all (length out - at) (drop at out) room)
+
+    behind : drop (length text) (drop at out) ≡ drop (at + r) out
+    behind = drop-drop (length text) at out ∙ ap (λ (n : ℕ). drop (at + n) out) (sym e)
+
+    inner : part ++ drop (length out - at) (drop at out) ≡ text ++ drop (at + r) out
+    inner =
+        ap (λ (l : List ℕ). part ++ l) (drop-of-length-le (drop at out) room)
+        ∙ append-nil part
+        ∙ part-is
+        ∙ ap (λ (l : List ℕ). text ++ l) behind
+
+-- text after text
+pub puts-then : {out s out₁ t out₂ : List ℕ} {at a b : ℕ} → at ≤ length out → Puts out at s out₁ a → Puts out₁ a t out₂ b → Puts out at (s ++ t) out₂ b
+puts-then {out} {s} {out₁} {t} {out₂} {at} {a} {b} inside p q = record { end = omega (arith, p .end, q .end, length-append s t); bytes = whole }
+  where
+    front : length (take at out ++ s) ≡ a
+    front = length-append (take at out) s ∙ ap (λ (n : ℕ). n + length s) (length-take-le at out inside) ∙ sym (p .end)
+
+    split : out₁ ≡ (take at out ++ s) ++ drop a out
+    split = p .bytes ∙ sym (append-assoc (take at out) s (drop a out))
+
+    before : take a out₁ ≡ take at out ++ s
+    before = ap (take a) split ∙ take-at (take at out ++ s) (drop a out) a front
+
+    behind : drop b out₁ ≡ drop b out
+    behind =
+        ap (λ (n : ℕ). drop n out₁) (q .end)
+        ∙ sym (drop-drop (length t) a out₁)
+        ∙ ap (drop (length t)) (ap (drop a) split ∙ drop-at (take at out ++ s) (drop a out) a front)
+        ∙ drop-drop (length t) a out
+        ∙ ap (λ (n : ℕ). drop n out) (sym (q .end))
+
+    whole : out₂ ≡ take at out ++ ((s ++ t) ++ drop b out)
+    whole = q .bytes ∙ rw (before, behind) (simp append-assoc)
+
+pub digits-length : (b most n : ℕ) → length (digits b most n) ≤ most
+unfolding digits
+digits-length b zero n = omega arith
+digits-length b (suc most) n = go (digits-length b most (n / b)) (ltb n b)
+  where
+    go : length (digits b most (n / b)) ≤ most → (x : Bool) → length (cond x ((48 + n) ∷ []) (digits b most (n / b) ++ ((48 + n % b) ∷ []))) ≤ suc most
+    go h true = omega arith
+    go h false = omega (arith, length-append (digits b most (n / b)) ((48 + n % b) ∷ []))
+
+-- the cases of `digits`: none, one, and more
+pub digits-none : (b most n : ℕ) → most ≡ 0 → digits b most n ≡ []
+unfolding digits
+digits-none b most n e = rw e
+
+pub digits-one : (b most n : ℕ) → 1 ≤ most → n < b → digits b most n ≡ (48 + n) ∷ []
+unfolding digits
+digits-one b zero n h l = absurd (omega arith)
+digits-one b (suc most) n h l = rw (lt-ltb n b l)
+
+pub digits-more : (b most n : ℕ) → 1 ≤ most → b ≤ n → digits b most n ≡ digits b (most - 1) (n / b) ++ ((48 + n % b) ∷ [])
+unfolding digits
+digits-more b zero n h l = absurd (omega arith)
+digits-more b (suc most) n h l =
+    let m : most ≡ suc most - 1 = omega arith in
+    rw (le-ltb n b l) (ap (λ (m : ℕ). digits b m (n / b) ++ ((48 + n % b) ∷ [])) m)
+
+-- how long the parts of a line are at most
+pub field-length : (t : List ℕ) (n : ℕ) → length (t ++ number n) ≤ length t + 10
+field-length t n = omega (arith, length-append t (number n), digits-length 10 10 n)
+
+pub side-length : (e : ℕ) → length (sideLine e) ≤ 14
+unfolding sideLine
+side-length e = go (ltb e sideUnit)
+  where
+    go : (x : Bool) → length (cond x outWord inWord ++ number (ownerOf e)) ≤ 14
+    go true = field-length outWord (ownerOf e)
+    go false = omega (arith, field-length inWord (ownerOf e))
+
+-- the parts of each line, in the order in which they are put
+pub side-out : (e : ℕ) → e < sideUnit → sideLine e ≡ outWord ++ number (ownerOf e)
+unfolding sideLine
+side-out e h = rw (lt-ltb e sideUnit h)
+
+pub side-in : (e : ℕ) → sideUnit ≤ e → sideLine e ≡ inWord ++ number (ownerOf e)
+unfolding sideLine
+side-in e h = rw (le-ltb e sideUnit h)
+
+pub refused-is : (n : ℕ) → refusedLine n ≡ (refusedWord ++ number n) ++ newline
+unfolding refusedLine
+refused-is n = simp append-assoc
+
+pub entry-is : (e : ℕ) → entryLine e ≡ (((sideLine e ++ (space ++ number (hubOf e))) ++ space) ++ colours (codeOf e)) ++ newline
+unfolding entryLine
+entry-is e = simp append-assoc
+
+nested : (a b c d e f g h i : List ℕ) → a ++ (b ++ (c ++ (d ++ (e ++ (f ++ (g ++ (h ++ i))))))) ≡ ((((a ++ b) ++ (c ++ d)) ++ (e ++ f)) ++ (g ++ h)) ++ i
+nested a b c d e f g h i = simp append-assoc
+
+pub header-is : (v k m n : ℕ) → headerLine v k m n
+    ≡ ((((placesWord ++ number v) ++ (longestWord ++ number k)) ++ (legsWord ++ number m)) ++ (entriesWord ++ number n)) ++ newline
+unfolding headerLine
+header-is v k m n = nested placesWord (number v) longestWord (number k) legsWord (number m) entriesWord (number n) newline
+
+pub entry-length : (e : ℕ) → length (entryLine e) ≤ 31
+entry-length e =
+    let s = sideLine e in
+    let h = space ++ number (hubOf e) in
+    let k = colours (codeOf e) in
+    rw (entry-is e)
+    (omega
+    (arith, length-append (((s ++ h) ++ space) ++ k) newline, length-append ((s ++ h) ++ space) k, length-append (s ++ h) space, length-append s h, side-length e, field-length space (hubOf e), digits-length 16 4 (codeOf e)))
+
+pub header-length : (v k m n : ℕ) → length (headerLine v k m n) ≤ 72
+header-length v k m n =
+    let p = placesWord ++ number v in
+    let q = longestWord ++ number k in
+    let r = legsWord ++ number m in
+    let s = entriesWord ++ number n in
+    rw (header-is v k m n)
+    (omega
+    (arith, length-append (((p ++ q) ++ r) ++ s) newline, length-append ((p ++ q) ++ r) s, length-append (p ++ q) r, length-append p q, field-length placesWord v, field-length longestWord k, field-length legsWord m, field-length entriesWord n))
+
+pub listing-is : (v k m : ℕ) (l : List ℕ) → listing v k m l ≡ headerLine v k m (length l) ++ spread entryLine l
+unfolding listing
+listing-is v k m l = refl
+
+-- the lines of no entry, of one more, and of all
+pub lines-none : (l : List ℕ) → spread entryLine (take 0 l) ≡ []
+unfolding spread
+lines-none l = refl
+
+pub lines-all : (l : List ℕ) (i : ℕ) → length l ≤ i → spread entryLine (take i l) ≡ spread entryLine l
+lines-all l i h = ap (spread entryLine) (take-all i l h)
+
+pub lines-more : (l : List ℕ) (i : ℕ) → i < length l → spread entryLine (take (i + 1) l) ≡ spread entryLine (take i l) ++ entryLine (getD l i 0)
+lines-more l i h = rw (add-one, take-suc l i 0 h) (spread-snoc entryLine (take i l) (getD l i 0))

@@ -1,0 +1,85 @@
+-- `printing::put_entry` meets its contract: part after part, within 32 bytes.
+use Prim.Native.Nat.{_+_, _≤_}
+use native.Mathlib.Omega.{arith}
+use borrow.Author.Needs.{needs}
+use lib.ListN.{length}
+use Rattle.model.specs.Query.{hubOf, codeOf}
+use Rattle.printing.specs.Lines.{space}
+use Rattle.printing.proofs.Putting.{puts-then, digits-length, field-length, side-length, entry-is}
+use Rattle.printing.proofs.put_entry.Statement.{statement}
+use Rattle.printing.proofs.put_entry.Tie as tie
+
+-- what is left of the 32 bytes after each part
+room-side : (c : tie.After-put-side) → c .put-side .result + 18 ≤ length (c .put-side .last .0)
+room-side c =
+    let start = c .before .before .before in
+    omega (arith, c .put-side .ensures .end, c .put-side .kept .0, side-length (start .args .entry), start .pre)
+
+room-hub : (c : tie.After-put-field) → c .put-field .result + 7 ≤ length (c .put-field .last .0)
+room-hub c =
+    let side = c .before .before .before .before .before in
+    omega (arith, c .put-field .ensures .end, c .put-field .kept .0, field-length space (hubOf (side .before .before .before .args .entry)), room-side side)
+
+room-space : (c : tie.After-put) → c .put .result + 6 ≤ length (c .put .last .0)
+room-space c = omega (arith, c .put .ensures .end, c .put .kept .0, room-hub (c .before .before .before .before))
+
+room-colours : (c : tie.After-put-digits) → c .put-digits .result + 2 ≤ length (c .put-digits .last .0)
+room-colours c =
+    let blank = c .before .before .before .before in
+    let hub = blank .before .before .before .before in
+    let side = hub .before .before .before .before .before in
+    omega (arith, c .put-digits .ensures .end, c .put-digits .kept .0, digits-length 16 4 (codeOf (side .before .before .before .args .entry)), room-space blank)
+
+put-side-requires : tie.Need-put-side-requires
+put-side-requires c κs = search needs
+
+slice-aggregate-put-field : tie.Need-slice-aggregate-put-field
+slice-aggregate-put-field c = search needs
+
+cast-put-field : tie.Need-cast-put-field
+cast-put-field c = search needs
+
+put-field-requires : tie.Need-put-field-requires
+put-field-requires c κs = omega (arith, room-side (c .before .before .before .before))
+
+put-requires : tie.Need-put-requires
+put-requires c κs = omega (arith, room-hub (c .before .before .before))
+
+cast-put-digits : tie.Need-cast-put-digits
+cast-put-digits c = search needs
+
+put-digits-requires : tie.Need-put-digits-requires
+put-digits-requires c κs = (omega arith, (omega arith, omega (arith, room-space (c .before .before .before))))
+
+put-requires-2 : tie.Need-put-requires-2
+put-requires-2 c κs = omega (arith, room-colours (c .before .before .before))
+
+same-length : tie.Need-same-length
+same-length c = search needs
+
+returns : tie.Need-returns
+returns c =
+    let end = c .before .before in
+    let digits = end .before .before .before .before in
+    let blank = digits .before .before .before .before in
+    let hub = blank .before .before .before .before in
+    let side = hub .before .before .before .before .before in
+    let start = side .before .before .before in
+    let inside : start .args .at ≤ length (start .args .out .now) = omega (arith, start .pre) in
+    rw (entry-is (start .args .entry))
+    (puts-then inside (puts-then inside (puts-then inside (puts-then inside (side .put-side .ensures) (hub .put-field .ensures)) (blank .put .ensures)) (digits .put-digits .ensures)) (end .put2 .ensures))
+
+pub put-entry-spec : {M : Type 1} → statement M
+put-entry-spec =
+    tie.close
+    (tie.spec
+    put-side-requires
+    slice-aggregate-put-field
+    cast-put-field
+    put-field-requires
+    put-requires
+    cast-put-digits
+    put-digits-requires
+    put-requires-2
+    same-length
+    returns)

@@ -1,0 +1,77 @@
+-- What the listing program prints (document 01, "The layout card"), as bytes.
+use mathlib.Core.Bool.{cond}
+use mathlib.Core.List.{List, [], _∷_, _++_}
+use Prim.Native.Nat.{ℕ, zero, suc, _+_, _/_, _%_}
+use lib.Dec.{ltb}
+use lib.ListN.{length}
+use Rattle.model.specs.Lists.{spread}
+use Rattle.model.specs.Limits.{sideUnit, mostLongest}
+use Rattle.model.specs.Query.{ownerOf, hubOf, codeOf}
+
+-- the digits of n in base b, with no zeros in front, at most `most` of them. Byte 48 is the digit 0
+unfoldable pub digits : (b most n : ℕ) → List ℕ
+digits b zero n = []
+digits b (suc most) n = let more = digits b most (n / b) ++ ((48 + n % b) ∷ []) in cond (ltb n b) ((48 + n) ∷ []) more
+
+-- a decimal number; 32 bits take 10 digits
+abbrev pub number : ℕ → List ℕ
+number n = digits 10 10 n
+
+-- the colours of a pattern: its code's hexadecimal digits
+abbrev pub colours : ℕ → List ℕ
+colours code = digits 16 mostLongest code
+
+abbrev pub space : List ℕ
+space = 32 ∷ []
+
+abbrev pub newline : List ℕ
+newline = 10 ∷ []
+
+-- "out "
+abbrev pub outWord : List ℕ
+outWord = 111 ∷ 117 ∷ 116 ∷ 32 ∷ []
+
+-- "in "
+abbrev pub inWord : List ℕ
+inWord = 105 ∷ 110 ∷ 32 ∷ []
+
+-- "side, owner"
+unfoldable pub sideLine : ℕ → List ℕ
+sideLine e = cond (ltb e sideUnit) outWord inWord ++ number (ownerOf e)
+
+-- "one line for each entry …: side, owner, hub, colours"
+unfoldable pub entryLine : ℕ → List ℕ
+entryLine e = sideLine e ++ (space ++ (number (hubOf e) ++ (space ++ (colours (codeOf e) ++ newline))))
+
+-- "places "
+abbrev pub placesWord : List ℕ
+placesWord = 112 ∷ 108 ∷ 97 ∷ 99 ∷ 101 ∷ 115 ∷ 32 ∷ []
+
+-- " longest "
+abbrev pub longestWord : List ℕ
+longestWord = 32 ∷ 108 ∷ 111 ∷ 110 ∷ 103 ∷ 101 ∷ 115 ∷ 116 ∷ 32 ∷ []
+
+-- " legs "
+abbrev pub legsWord : List ℕ
+legsWord = 32 ∷ 108 ∷ 101 ∷ 103 ∷ 115 ∷ 32 ∷ []
+
+-- " entries "
+abbrev pub entriesWord : List ℕ
+entriesWord = 32 ∷ 101 ∷ 110 ∷ 116 ∷ 114 ∷ 105 ∷ 101 ∷ 115 ∷ 32 ∷ []
+
+-- "refused "
+abbrev pub refusedWord : List ℕ
+refusedWord = 114 ∷ 101 ∷ 102 ∷ 117 ∷ 115 ∷ 101 ∷ 100 ∷ 32 ∷ []
+
+-- "places 3 longest 2 legs 3 entries 5"
+unfoldable pub headerLine : (vertices longest edges entries : ℕ) → List ℕ
+headerLine vertices longest edges entries =
+    placesWord ++ (number vertices ++ (longestWord ++ (number longest ++ (legsWord ++ (number edges ++ (entriesWord ++ (number entries ++ newline)))))))
+
+-- "A refused card prints one line, `refused` and its number"
+unfoldable pub refusedLine : ℕ → List ℕ
+refusedLine n = refusedWord ++ (number n ++ newline)
+
+-- "After the header comes one line for each entry in slot order": the whole output
+unfoldable pub listing : (vertices longest edges : ℕ) → List ℕ → List ℕ
+listing vertices longest edges entries = headerLine vertices longest edges (length entries) ++ spread entryLine entries
