@@ -1,5 +1,4 @@
 -- The proof of the cycle of calls {put_digits}. The measure is how many digits may stand.
-use mathlib.Core.Path.{_≡_, sym, _∙_}
 use Prim.Native.Nat.{ℕ, _-_, _/_, _%_, _≤_, _<_}
 use native.Mathlib.Nat.{mod-lt}
 use native.Mathlib.Omega.{arith}

@@ -1,0 +1,83 @@
+-- `table2::table` meets its contract: `build` leaves Table II in index memory, and its lines are put.
+use mathlib.Core.Path.{_≡_, refl}
+use native.Mathlib.Omega.{arith}
+use borrow.Author.Needs.{needs}
+use Rattle.table2.proofs.Figure.{Holds, buildable, built, entries-are, not-too-many, table-entries}
+use Rattle.table2.proofs.table.Statement.{statement}
+use Rattle.table2.proofs.table.Tie as tie
+
+-- after `build`: the reply, and index memory
+holds : (c : tie.After-build) → Holds (c .build .last .1 .1 .1 .1 .0) (c .build .result)
+holds c = built refl (c .build .ensures)
+
+-- the number of entries bound from the reply
+count : (c : tie.After-built) → c .built .given .0 .0 ≡ 26
+count c = entries-are (holds (c .before .before .before .before) .reply) (c .built .given .1)
+
+slice-aggregate-build : tie.Need-slice-aggregate-build
+slice-aggregate-build c = search needs
+
+slice-aggregate-build-2 : tie.Need-slice-aggregate-build-2
+slice-aggregate-build-2 c = search needs
+
+slice-aggregate-build-3 : tie.Need-slice-aggregate-build-3
+slice-aggregate-build-3 c = search needs
+
+slice-aggregate-build-4 : tie.Need-slice-aggregate-build-4
+slice-aggregate-build-4 c = search needs
+
+build-requires : tie.Need-build-requires
+build-requires c κs = buildable (omega arith)
+
+enum-known-built : tie.Need-enum-known-built
+enum-known-built c = search needs
+
+enum-told : tie.Need-enum-told
+enum-told c = search needs
+
+returns : tie.Need-returns
+returns c = not-too-many (holds (c .before .before .before .before) .reply) (c .enum-told .given .1)
+
+array-share-prefix-index : tie.Need-array-share-prefix-index
+array-share-prefix-index c =
+    let told = c .before .before in
+    rw (count told, holds (told .before .before .before .before) .len) (omega arith)
+
+slice-aggregate-put-entries : tie.Need-slice-aggregate-put-entries
+slice-aggregate-put-entries c =
+    let told = c .before .before .before in
+    rw (count told, holds (told .before .before .before .before) .front, table-entries)
+
+put-entries-requires : tie.Need-put-entries-requires
+put-entries-requires c κs =
+    let told = c .before .before .before in
+    let build = told .before .before .before .before in
+    rw (count told, holds build .front, table-entries)
+    (omega (arith, build .before .before .before .before .before .before .pre))
+
+same-length : tie.Need-same-length
+same-length c = search needs
+
+returns-2 : tie.Need-returns-2
+returns-2 c =
+    let put = c .before .before in
+    let told = put .before .before .before .before in
+    rw (count told, holds (told .before .before .before .before) .front) at (put .put-entries .ensures)
+
+pub table-spec : {M : Type 1} → statement M
+table-spec =
+    tie.close
+    (tie.spec
+    slice-aggregate-build
+    slice-aggregate-build-2
+    slice-aggregate-build-3
+    slice-aggregate-build-4
+    build-requires
+    enum-known-built
+    enum-told
+    returns
+    array-share-prefix-index
+    slice-aggregate-put-entries
+    put-entries-requires
+    same-length
+    returns-2)
