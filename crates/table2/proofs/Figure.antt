@@ -1,8 +1,9 @@
 -- The graph of Fig. 2 of paper 004 with its access order: `build` may be called on them, and the entries are Table II, by computing.
 use mathlib.Core.Path.{_≡_, refl, ap, _∙_}
 use mathlib.Core.List.{List, [], _∷_, _++_}
-use Prim.Native.Nat.{ℕ, _+_, _≤_}
+use Prim.Native.Nat.{ℕ, _+_, _-_, _≤_}
 use native.Mathlib.Omega.{arith}
+use borrow.Author.Tests.{le-ltb}
 use lib.ListN.{length, take, replicate, length-append}
 use lib.Seq.{take-at}
 use Rattle.model.specs.Lists.{any?, all?, keep, from, spread}
@@ -68,20 +69,21 @@ pub table-bytes : length (spread entryLine tableII) ≤ 1024
 unfolding tableII spread entryLine sideLine digits
 table-bytes = omega arith
 
--- what `build` leaves: its reply, and index memory with Table II in front
+-- what `build` leaves in 26 slots or more: its reply, and index memory with Table II in front
 pub record Holds (index : List ℕ) (r : Built) : Type 0 where
   pub reply : r ≡ Entries 26
-  pub len : length index ≡ 32
+  pub slots : 26 ≤ length index
   pub front : take 26 index ≡ tableII
 
-pub built : {index w index′ w′ : List ℕ} {r : Built} → length index ≡ 32 → Builds graph order index w index′ w′ r → Holds index′ r
-built {index} {w} {index′} {w′} {r} e b =
-    let reply : r ≡ Entries 26 = rw (e, table-II, table-entries) at (b .reply) in
-    let is : index′ ≡ tableII ++ replicate 6 0 = rw (e, table-II, table-entries) at (b .index-is) in
+pub built : {index w index′ w′ : List ℕ} {r : Built} → 26 ≤ length index → Builds graph order index w index′ w′ r → Holds index′ r
+built {index} {w} {index′} {w′} {r} h b =
+    let fits = le-ltb (length index) 26 h in
+    let reply : r ≡ Entries 26 = rw (table-II, table-entries, fits) at (b .reply) in
+    let is : index′ ≡ tableII ++ replicate (length index - 26) 0 = rw (table-II, table-entries, fits) at (b .index-is) in
     record {
       reply = reply;
-      len = ap length is ∙ length-append tableII (replicate 6 0) ∙ ap (λ (n : ℕ). n + 6) table-entries;
-      front = ap (take 26) is ∙ take-at tableII (replicate 6 0) 26 table-entries;
+      slots = omega (arith, ap length is, length-append tableII (replicate (length index - 26) 0), table-entries);
+      front = ap (take 26) is ∙ take-at tableII (replicate (length index - 26) 0) 26 table-entries;
     }
 
 -- the number of entries that the reply has

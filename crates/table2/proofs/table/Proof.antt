@@ -1,5 +1,5 @@
 -- `table2::table` meets its contract: `build` leaves Table II in index memory, and its lines are put.
-use mathlib.Core.Path.{_≡_, refl}
+use mathlib.Core.Path.{_≡_}
 use native.Mathlib.Omega.{arith}
 use borrow.Author.Needs.{needs}
 use Rattle.table2.proofs.Figure.{Holds, buildable, built, entries-are, not-too-many, table-entries}
@@ -8,7 +8,7 @@ use Rattle.table2.proofs.table.Tie as tie
 
 -- after `build`: the reply, and index memory
 holds : (c : tie.After-build) → Holds (c .build .last .1 .1 .1 .1 .0) (c .build .result)
-holds c = built refl (c .build .ensures)
+holds c = built (omega arith) (c .build .ensures)
 
 -- the number of entries bound from the reply
 count : (c : tie.After-built) → c .built .given .0 .0 ≡ 26
@@ -41,7 +41,7 @@ returns c = not-too-many (holds (c .before .before .before .before) .reply) (c .
 array-share-prefix-index : tie.Need-array-share-prefix-index
 array-share-prefix-index c =
     let told = c .before .before in
-    rw (count told, holds (told .before .before .before .before) .len) (omega arith)
+    rw (count told) (holds (told .before .before .before .before) .slots)
 
 slice-aggregate-put-entries : tie.Need-slice-aggregate-put-entries
 slice-aggregate-put-entries c =
