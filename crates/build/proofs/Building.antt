@@ -16,7 +16,7 @@ use Rattle.build.specs.Build.{Buildable, listOf, Saved, Builds}
 use Rattle.build.specs.Parts.{Stageable, Stages, Writable, Writes}
 use Rattle.build.proofs.Listing.{staged-distinct, staged-translatable, listing-length, written-listing, too-many}
 
-saved-then : {w w′ w″ : List ℕ} → Saved w w′ → Saved w′ w″ → Saved w w″
+pub saved-then : {w w′ w″ : List ℕ} → Saved w w′ → Saved w′ w″ → Saved w w″
 saved-then s t = record { len = t .len ∙ s .len; same = λ k h l. t .same k h l ∙ s .same k h l }
 
 -- with the counted order they are the determined entries

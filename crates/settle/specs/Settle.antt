@@ -1,0 +1,35 @@
+-- Settling a change that is tried: edge memory holds the wanted edges already, and work memory keeps what it held before.
+use mathlib.Core.Path.{_≡_}
+use mathlib.Core.Bool.{true}
+use mathlib.Core.List.{List}
+use Prim.Native.Nat.{ℕ, _+_, _≤_}
+use lib.ListN.{length, take, drop}
+use Rattle.model.specs.Lists.{_∈_, Rising, filled}
+use Rattle.model.specs.Limits.{mostVertices, mostEdges, mostLongest, leastWork}
+use Rattle.model.specs.Edges.{edge?}
+use Rattle.model.specs.declared.Answer.{Answer}
+use Rattle.calls.specs.Change.{Header, none, Leaves, settle}
+use Rattle.edges.specs.Memory.{Narrow}
+use Rattle.rows.specs.Room.{savedNumbers}
+
+-- what edge memory held, as saved in work memory: as many numbers as it has slots
+abbrev pub savedIn : (work edges : List ℕ) → List ℕ
+savedIn work edges = take (length edges) (drop savedNumbers work)
+
+-- n rising edges of the graph and then zeros stand in edge memory, and work memory has room for a build
+pub record Settleable (h : Header) (n : ℕ) (edges index work : List ℕ) : Type 0 where
+  pub vertices-most : h .vertices ≤ mostVertices
+  pub longest-least : 1 ≤ h .longest
+  pub longest-most : h .longest ≤ mostLongest
+  pub few : length edges ≤ mostEdges
+  pub fits : n ≤ length edges
+  pub zeros : edges ≡ filled (length edges) (take n edges)
+  pub rises : Rising (take n edges)
+  pub valid : (x : ℕ) → x ∈ take n edges → edge? (h .vertices) x ≡ true
+  pub room : leastWork + length index ≤ length work
+  pub narrow : Narrow (savedIn work edges)
+
+-- the answer and memory afterwards are those of settling, from the edge memory that was saved
+abbrev pub Settles : (h : Header) (n : ℕ) (edges index work : List ℕ) (r : Answer) (edges′ index′ work′ : List ℕ) → Type 0
+Settles h n edges index work r edges′ index′ work′ =
+    Leaves (settle none h (take n edges) (record { edges = savedIn work edges; index = index; work = work })) r edges′ index′ work′
