@@ -2,3 +2,4 @@ pub mod Checks
 pub mod Search
 pub mod Query
 pub mod Change
+pub mod Card

@@ -34,6 +34,14 @@ headBytes = 9
 abbrev pub edgeBytes : ℕ → List ℕ
 edgeBytes x = fromOf x ∷ labelOf x ∷ toOf x ∷ []
 
+-- the number that three bytes give, and the test that they name a leg of a layout with so many places. (Each byte is looked at as it stands: a
+-- number alone could be that of another leg.)
+abbrev pub legAt : List ℕ → ℕ → ℕ
+legAt bytes i = edgeNumber (getD bytes i 0) (getD bytes (i + 1) 0) (getD bytes (i + 2) 0)
+
+abbrev pub legAt? : ℕ → List ℕ → ℕ → Bool
+legAt? vertices bytes i = ends? vertices (getD bytes i 0) (getD bytes (i + 2) 0) && label? (getD bytes (i + 1) 0)
+
 -- "Bytes: the mark PRC, a 16-bit version 1, places less one, k, a 16-bit leg count, then from, colour, to for each leg"
 unfoldable pub cardOf : Header → List ℕ → List ℕ
 cardOf h edges = mark ++ wordBytes 1 ++ ((h .vertices - 1) ∷ h .longest ∷ []) ++ wordBytes (length edges) ++ spread edgeBytes edges
@@ -60,8 +68,7 @@ edgesOf (from ∷ []) = []
 edgesOf (from ∷ label ∷ []) = []
 edgesOf (from ∷ label ∷ to ∷ more) = edgeNumber from label to ∷ edgesOf more
 
--- those bytes name whole legs of a layout with so many places, rising from above prev. (Each byte is looked at as it stands: a number alone
--- could be that of another leg.)
+-- those bytes name whole legs of a layout with so many places, rising from above prev
 unfoldable pub risingLegs? : ℕ → ℕ → List ℕ → Bool
 risingLegs? vertices prev [] = true
 risingLegs? vertices prev (from ∷ []) = false

@@ -1,0 +1,90 @@
+-- A card as it is written: its head, then three bytes for each edge, and behind them the output as it came.
+use mathlib.Core.Path.{_≡_, sym, ap, _∙_}
+use mathlib.Core.List.{List, _++_}
+use Prim.Native.Nat.{ℕ, _+_, _-_, _*_, _≤_, _<_}
+use native.Mathlib.Omega.{arith}
+use lib.ListN.{length, getD, take, drop, set, length-drop, length-set, List·getD-append}
+use lib.Seq.{drop-drop}
+use Rattle.model.specs.Lists.{spread}
+use Rattle.model.specs.Edges.{fromOf, labelOf, toOf}
+use Rattle.model.proofs.Tests.{test-yields}
+use Rattle.model.proofs.Edges.{test-edge}
+use Rattle.model.proofs.Lists.{getD-in}
+use Rattle.calls.specs.Change.{Header}
+use Rattle.calls.specs.Card.{headBytes, edgeBytes, cardOf}
+use Rattle.calls.proofs.Card.{length-bytes, getD-bytes}
+use Rattle.edges.proofs.Mix.{Mixed, front-turn}
+use Rattle.edges.proofs.Copying.{save-start, save-end}
+use Rattle.card.specs.Card.{headOf, Legs, Writable}
+use Rattle.card.proofs.Filling.{part-last, part-all}
+
+module _ (edges out : List ℕ) where
+  abbrev pub bytes : List ℕ
+  bytes = spread edgeBytes edges
+
+  -- the part of the output behind the head, once all legs are written
+  abbrev pub legsOver : List ℕ
+  legsOver = bytes ++ drop (length bytes) out
+
+module _ {edges out : List ℕ} (p : Legs edges out) where
+  bytes-room : length (bytes edges out) ≤ length out
+  bytes-room = omega (arith, length-bytes edges, p .room)
+
+  pub legs-start : Mixed (legsOver edges out) out out 0
+  legs-start = save-start (bytes edges out) out bytes-room
+
+  pub leg-narrow : (i : ℕ) → i < length edges → fromOf (getD edges i 0) < 256
+  leg-narrow i h = p .narrow (getD edges i 0) (getD-in edges i h)
+
+  module _ {cur : List ℕ} {i : ℕ} (m : Mixed (legsOver edges out) out cur (3 * i)) where
+    -- there is room for the last byte of a leg
+    pub legs-room : i < length edges → (a b : ℕ) → 3 * i + 2 < length (set (set cur (3 * i) a) (3 * i + 1) b)
+    legs-room h a b = rw (length-set, length-set) (omega (arith, m .size, p .room, h))
+
+    pub legs-turn : i < length edges
+        → Mixed (legsOver edges out) out
+        (set (set (set cur (3 * i) (fromOf (getD edges i 0))) (3 * i + 1) (labelOf (getD edges i 0))) (3 * i + 2) (toOf (getD edges i 0)))
+        (3 * (i + 1))
+    legs-turn h =
+        let r = getD-bytes edges i h in
+        let one : 3 * i + 1 + 1 ≡ 3 * i + 2 = omega arith in
+        let two : 3 * i + 2 + 1 ≡ 3 * (i + 1) = omega arith in
+        let a = front-turn m (room m (3 * i) (omega arith)) (sym (at (3 * i) (omega arith) ∙ r .from)) in
+        let b = rw one at (front-turn a (room a (3 * i + 1) (omega arith)) (sym (at (3 * i + 1) (omega arith) ∙ r .label))) in
+        rw two at (front-turn b (room b (3 * i + 2) (omega arith)) (sym (at (3 * i + 2) (omega arith) ∙ r .to)))
+      where
+        at : (k : ℕ) → k < 3 * length edges → getD (legsOver edges out) k 0 ≡ getD (bytes edges out) k 0
+        at k u = List·getD-append (bytes edges out) (drop (length (bytes edges out)) out) 0 k (omega (arith, length-bytes edges, u))
+
+        room : {l : List ℕ} {j : ℕ} → Mixed (legsOver edges out) out l j → (k : ℕ) → k < 3 * length edges → k < length l
+        room n k u = omega (arith, n .size, p .room, u)
+
+    pub legs-end : length edges ≤ i → cur ≡ bytes edges out ++ drop (3 * length edges) out
+    legs-end h =
+        save-end (bytes edges out) out bytes-room m (omega (arith, length-bytes edges, h))
+        ∙ ap (λ (k : ℕ). bytes edges out ++ drop k out) (length-bytes edges)
+
+module _ {h : Header} {edges output : List ℕ} (p : Writable h edges output) where
+  -- behind a head of nine bytes there is room for the legs
+  pub legs-lent : {out : List ℕ} → out ≡ headOf (h .vertices) (h .longest) (length edges) ++ drop headBytes output
+      → Legs edges (take (length out - headBytes) (drop headBytes out))
+  legs-lent {out} e =
+      record {
+        narrow = λ x m. omega (arith, (test-yields (test-edge (h .vertices) x) (p .valid x m)) .from, p .vertices-most);
+        room =
+            let size : length (take (length out - headBytes) (drop headBytes out)) ≡ length output - headBytes =
+            ap length (part-all out headBytes ∙ ap (drop headBytes) e) ∙ length-drop headBytes output in
+            omega (arith, size, p .room);
+      }
+
+  pub card-written : {out part : List ℕ} → out ≡ headOf (h .vertices) (h .longest) (length edges) ++ drop headBytes output
+      → part ≡ spread edgeBytes edges ++ drop (3 * length edges) (take (length out - headBytes) (drop headBytes out))
+      → take headBytes out ++ (part ++ drop (length out - headBytes) (drop headBytes out)) ≡ cardOf h edges ++ drop (headBytes + 3 * length edges) output
+  unfolding cardOf
+  card-written {out} {part} e f =
+      let behind : take (length out - headBytes) (drop headBytes out) ≡ drop headBytes output = part-all out headBytes ∙ ap (drop headBytes) e in
+      let rest : part ≡ spread edgeBytes edges ++ drop (headBytes + 3 * length edges) output =
+      f ∙ ap (λ (l : List ℕ). spread edgeBytes edges ++ drop (3 * length edges) l) behind
+      ∙ ap (λ (l : List ℕ). spread edgeBytes edges ++ l) (drop-drop (3 * length edges) headBytes output) in
+      part-last out part headBytes ∙ ap (λ (l : List ℕ). take headBytes l ++ part) e
+      ∙ ap (λ (l : List ℕ). headOf (h .vertices) (h .longest) (length edges) ++ l) rest

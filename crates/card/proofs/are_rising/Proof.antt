@@ -1,0 +1,78 @@
+-- `card::are_rising` meets its contract. The invariant: the legs from byte i on say what all legs say.
+use mathlib.Core.Path.{_≡_, refl, sym, _∙_}
+use Prim.Native.Nat.{_-_, _%_, _+_, _≤_, _<_}
+use native.Mathlib.Omega.{arith}
+use lib.ListN.{length, drop}
+use Rattle.calls.specs.Card.{risingLegs?}
+use Rattle.calls.proofs.Card.{legs-other, legs-low, legs-more, legs-done}
+use borrow.Author.Needs.{needs}
+use Rattle.card.proofs.are_rising.Statement.{statement}
+use Rattle.card.proofs.are_rising.Tie as tie
+
+abbrev Inv-loop : tie.InvT-loop
+Inv-loop vertices body prev₀ i₀ prev i = (i ≤ length body) × (i % 3 ≡ 0) × (risingLegs? vertices prev (drop i body) ≡ risingLegs? vertices 0 body)
+
+abbrev μ-loop : tie.MeasureT-loop
+μ-loop vertices body prev₀ i₀ prev i = length body - i
+
+loop-holds : tie.Need-loop-holds Inv-loop μ-loop
+loop-holds c = (omega arith, omega arith, refl)
+
+is-leg-requires : tie.Need-is-leg-requires Inv-loop μ-loop
+is-leg-requires c κs = omega arith
+
+leg-requires : tie.Need-leg-requires Inv-loop μ-loop
+leg-requires c κs = omega arith
+
+-- a leg's three bytes are there
+whole : (c : tie.After-is-leg Inv-loop μ-loop) → c .before .before .loop .i + 2 < length (c .before .before .before .before .args .body .now)
+whole c = omega arith
+
+returns : tie.Need-returns Inv-loop μ-loop
+returns c =
+    let leg = c .before in
+    let test = leg .before .before in
+    let at = test .before .before in
+    let low = rw (leg .leg .ensures) at (c .if2 .taken) in
+    let is = sym (test .is-leg .ensures) ∙ leg .before .if1 .taken in
+    sym (legs-low _ _ _ (at .loop .i) (whole test) is low) ∙ at .loop .inv .2
+
+add-i : tie.Need-add-i Inv-loop μ-loop
+add-i c = search needs
+
+loop-less : tie.Need-loop-less Inv-loop μ-loop
+loop-less c = search needs
+
+loop-again : tie.Need-loop-again Inv-loop μ-loop
+loop-again c =
+    let leg = c .before in
+    let test = leg .before .before in
+    let at = test .before .before in
+    let above = rw (leg .leg .ensures) at (c .if2 .left) in
+    let is = sym (test .is-leg .ensures) ∙ leg .before .if1 .taken in
+    (omega arith, omega arith, rw (leg .leg .ensures) (sym (legs-more _ _ _ (at .loop .i) (whole test) is above) ∙ at .loop .inv .2))
+
+returns-2 : tie.Need-returns-2 Inv-loop μ-loop
+returns-2 c =
+    let test = c .before in
+    let at = test .before .before in
+    sym (legs-other _ _ _ (at .loop .i) (whole test) (sym (test .is-leg .ensures) ∙ c .if1 .left)) ∙ at .loop .inv .2
+
+returns-3 : tie.Need-returns-3 Inv-loop μ-loop
+returns-3 c = sym (legs-done _ _ _ (c .before .loop .i) (c .loop-test .left)) ∙ c .before .loop .inv .2
+
+pub are-rising-spec : {M : Type 1} → statement M
+are-rising-spec =
+    tie.close
+    (tie.spec
+    Inv-loop
+    μ-loop
+    loop-holds
+    is-leg-requires
+    leg-requires
+    returns
+    add-i
+    loop-less
+    loop-again
+    returns-2
+    returns-3)

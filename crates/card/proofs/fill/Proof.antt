@@ -1,0 +1,98 @@
+-- `card::fill` meets its contract. The invariant: the first i slots hold the first i legs, and the others are as they came.
+use mathlib.Core.List.{_++_}
+use Prim.Native.Nat.{_-_}
+use native.Mathlib.Omega.{arith}
+use lib.ListN.{length, drop}
+use Rattle.calls.specs.Card.{headBytes, edgesOf}
+use Rattle.edges.proofs.Mix.{Mixed}
+use Rattle.edges.proofs.Copying.{save-start, save-end}
+use Rattle.card.proofs.Filling.{legs, legs-size, fill-turn, zeros-behind}
+use borrow.Author.Needs.{needs}
+use Rattle.card.proofs.fill.Statement.{statement}
+use Rattle.card.proofs.fill.Tie as tie
+
+abbrev Inv-loop : tie.InvT-loop
+Inv-loop card n edges₀ i₀ edges i = Mixed (edgesOf (drop headBytes card) ++ drop (length (edgesOf (drop headBytes card))) edges₀) edges₀ edges i
+
+abbrev μ-loop : tie.MeasureT-loop
+μ-loop card n edges₀ i₀ edges i = n - i
+
+loop-holds : tie.Need-loop-holds Inv-loop μ-loop
+loop-holds c =
+    let p = c .before .before .pre in
+    save-start (legs p) (c .before .before .args .edges .now) (omega (arith, legs-size p, p .room))
+
+mul-leg : tie.Need-mul-leg Inv-loop μ-loop
+mul-leg c = search needs
+
+add-leg : tie.Need-add-leg Inv-loop μ-loop
+add-leg c = search needs
+
+leg-requires : tie.Need-leg-requires Inv-loop μ-loop
+leg-requires c κs = omega (arith, c .before .before .before .before .pre .whole)
+
+mul-edges : tie.Need-mul-edges Inv-loop μ-loop
+mul-edges c = search needs
+
+slice-write-edges : tie.Need-slice-write-edges Inv-loop μ-loop
+slice-write-edges c = search needs
+
+add-i : tie.Need-add-i Inv-loop μ-loop
+add-i c = search needs
+
+loop-less : tie.Need-loop-less Inv-loop μ-loop
+loop-less c = search needs
+
+loop-again : tie.Need-loop-again Inv-loop μ-loop
+loop-again c =
+    let at = c .before .before in
+    fill-turn (at .before .before .before .pre) (at .loop .inv) (c .before .loop-test .taken) (c .leg .ensures)
+
+mul-clear-edges : tie.Need-mul-clear-edges Inv-loop μ-loop
+mul-clear-edges c = search needs
+
+sub-clear-edges : tie.Need-sub-clear-edges Inv-loop μ-loop
+sub-clear-edges c = search needs
+
+part-clear-edges-start : tie.Need-part-clear-edges-start Inv-loop μ-loop
+part-clear-edges-start c = search needs
+
+part-clear-edges-end : tie.Need-part-clear-edges-end Inv-loop μ-loop
+part-clear-edges-end c = search needs
+
+clear-edges-requires : tie.Need-clear-edges-requires Inv-loop μ-loop
+clear-edges-requires c κs = search needs
+
+same-length : tie.Need-same-length Inv-loop μ-loop
+same-length c = search needs
+
+returns : tie.Need-returns Inv-loop μ-loop
+returns c =
+    let done = c .before .before .before .before in
+    let start = done .before .before .before .before in
+    let p = start .pre in
+    let all = save-end (legs p) (start .args .edges .now) (omega (arith, legs-size p, p .room)) (done .before .loop .inv) (omega (arith, legs-size p, done .loop-test .left)) in
+    zeros-behind (legs p) (start .args .edges .now) (start .args .n) (legs-size p) all (c .before .before .clear-edges .ensures)
+
+pub fill-spec : {M : Type 1} → statement M
+fill-spec =
+    tie.close
+    (tie.spec
+    Inv-loop
+    μ-loop
+    loop-holds
+    mul-leg
+    add-leg
+    leg-requires
+    mul-edges
+    slice-write-edges
+    add-i
+    loop-less
+    loop-again
+    mul-clear-edges
+    sub-clear-edges
+    part-clear-edges-start
+    part-clear-edges-end
+    clear-edges-requires
+    same-length
+    returns)

@@ -1,0 +1,70 @@
+-- `card::has_legs` meets its contract.
+use mathlib.Core.Path.{_≡_, sym, ap, _∙_}
+use native.Mathlib.Omega.{arith}
+use borrow.Author.Needs.{needs}
+use Rattle.calls.specs.Card.{headBytes, headerOf, risingLegs?}
+use Rattle.calls.proofs.Card.{legs-long, legs-body}
+use Rattle.card.proofs.Filling.{part-all}
+use Rattle.card.proofs.has_legs.Statement.{statement}
+use Rattle.card.proofs.has_legs.Tie as tie
+
+word-requires : tie.Need-word-requires
+word-requires c κs = search needs
+
+cast-n : tie.Need-cast-n
+cast-n c = search needs
+
+mul-if1 : tie.Need-mul-if1
+mul-if1 c = search needs
+
+add-if1 : tie.Need-add-if1
+add-if1 c = search needs
+
+returns : tie.Need-returns
+returns c = sym (legs-long (c .before .before .before .args .card .now) (rw (c .before .word .ensures) at (c .if1 .taken)))
+
+shared-slice-read-are-rising : tie.Need-shared-slice-read-are-rising
+shared-slice-read-are-rising c = search needs
+
+cast-are-rising : tie.Need-cast-are-rising
+cast-are-rising c = omega (arith, c .shared-slice-known2 .given 5)
+
+add-are-rising : tie.Need-add-are-rising
+add-are-rising c = omega (arith, c .shared-slice-known2 .given 5)
+
+sub-are-rising : tie.Need-sub-are-rising
+sub-are-rising c = search needs
+
+part-are-rising-start : tie.Need-part-are-rising-start
+part-are-rising-start c = search needs
+
+part-are-rising-end : tie.Need-part-are-rising-end
+part-are-rising-end c = search needs
+
+are-rising-requires : tie.Need-are-rising-requires
+are-rising-requires c κs = search needs
+
+returns-2 : tie.Need-returns-2
+returns-2 c =
+    let whole = c .before .before .before in
+    let card = whole .before .before .before .args .card .now in
+    let size = rw (whole .before .word .ensures) at (whole .if1 .left) in
+    c .are-rising .ensures ∙ ap (risingLegs? (headerOf card .vertices) 0) (part-all card headBytes) ∙ sym (legs-body card size)
+
+pub has-legs-spec : {M : Type 1} → statement M
+has-legs-spec =
+    tie.close
+    (tie.spec
+    word-requires
+    cast-n
+    mul-if1
+    add-if1
+    returns
+    shared-slice-read-are-rising
+    cast-are-rising
+    add-are-rising
+    sub-are-rising
+    part-are-rising-start
+    part-are-rising-end
+    are-rising-requires
+    returns-2)

@@ -1,0 +1,67 @@
+-- `card::leg` meets its contract: three bytes fit in a number.
+use Prim.Native.Nat.{_+_}
+use native.Mathlib.Omega.{arith}
+use borrow.Author.Needs.{needs}
+use Rattle.card.proofs.leg.Statement.{statement}
+use Rattle.card.proofs.leg.Tie as tie
+
+shared-slice-read-result : tie.Need-shared-slice-read-result
+shared-slice-read-result c = search needs
+
+cast-result : tie.Need-cast-result
+cast-result c = omega (arith, c .shared-slice-known .given (c .before .args .at))
+
+mul-result : tie.Need-mul-result
+mul-result c = omega (arith, c .shared-slice-known .given (c .before .args .at))
+
+add-result : tie.Need-add-result
+add-result c = search needs
+
+shared-slice-read-result-2 : tie.Need-shared-slice-read-result-2
+shared-slice-read-result-2 c = search needs
+
+cast-result-2 : tie.Need-cast-result-2
+cast-result-2 c = omega (arith, c .shared-slice-known2 .given (c .before .before .args .at + 1))
+
+mul-result-2 : tie.Need-mul-result-2
+mul-result-2 c = omega (arith, c .shared-slice-known2 .given (c .before .before .args .at + 1))
+
+add-result-2 : tie.Need-add-result-2
+add-result-2 c =
+    let at = c .before .before .args .at in
+    omega (arith, c .shared-slice-known2 .given at, c .shared-slice-known2 .given (at + 1))
+
+add-result-3 : tie.Need-add-result-3
+add-result-3 c = search needs
+
+shared-slice-read-result-3 : tie.Need-shared-slice-read-result-3
+shared-slice-read-result-3 c = search needs
+
+cast-result-3 : tie.Need-cast-result-3
+cast-result-3 c = omega (arith, c .shared-slice-known3 .given (c .before .before .before .args .at + 2))
+
+add-result-4 : tie.Need-add-result-4
+add-result-4 c =
+    let at = c .before .before .before .args .at in
+    omega (arith, c .shared-slice-known3 .given at, c .shared-slice-known3 .given (at + 1), c .shared-slice-known3 .given (at + 2))
+
+returns : tie.Need-returns
+returns c = search needs
+
+pub leg-spec : {M : Type 1} → statement M
+leg-spec =
+    tie.close
+    (tie.spec
+    shared-slice-read-result
+    cast-result
+    mul-result
+    add-result
+    shared-slice-read-result-2
+    cast-result-2
+    mul-result-2
+    add-result-2
+    add-result-3
+    shared-slice-read-result-3
+    cast-result-3
+    add-result-4
+    returns)

@@ -1,0 +1,99 @@
+-- `card::write_legs` meets its contract. The invariant: the first i legs are written, and the bytes behind them are as they came.
+use Prim.Native.Nat.{_-_, _*_}
+use native.Mathlib.Omega.{arith}
+use lib.ListN.{length, getD}
+use lib.Seq.{lt-length-set}
+use Rattle.model.specs.Edges.{fromOf, labelOf}
+use Rattle.edges.proofs.Mix.{Mixed}
+use Rattle.card.proofs.Writing.{legsOver, legs-start, leg-narrow, legs-room, legs-turn, legs-end}
+use borrow.Author.Needs.{needs}
+use Rattle.card.proofs.write_legs.Statement.{statement}
+use Rattle.card.proofs.write_legs.Tie as tie
+
+abbrev Inv-loop : tie.InvT-loop
+Inv-loop edges output₀ i₀ output i = Mixed (legsOver edges output₀) output₀ output (3 * i)
+
+abbrev μ-loop : tie.MeasureT-loop
+μ-loop edges output₀ i₀ output i = length edges - i
+
+loop-holds : tie.Need-loop-holds Inv-loop μ-loop
+loop-holds c = legs-start (c .pre)
+
+mul-x : tie.Need-mul-x Inv-loop μ-loop
+mul-x c = search needs
+
+shared-slice-read-x : tie.Need-shared-slice-read-x Inv-loop μ-loop
+shared-slice-read-x c = search needs
+
+mul-at : tie.Need-mul-at Inv-loop μ-loop
+mul-at c = omega (arith, c .before .before .before .pre .room)
+
+cast-output : tie.Need-cast-output Inv-loop μ-loop
+cast-output c =
+    let at = c .before .before in
+    omega (arith, leg-narrow (at .before .pre) (at .loop .i) (c .before .loop-test .taken))
+
+slice-write-output : tie.Need-slice-write-output Inv-loop μ-loop
+slice-write-output c = omega (arith, c .before .before .before .pre .room, c .before .before .loop .inv .size)
+
+cast-output-2 : tie.Need-cast-output-2 Inv-loop μ-loop
+cast-output-2 c = search needs
+
+add-output : tie.Need-add-output Inv-loop μ-loop
+add-output c = search needs
+
+slice-write-output-2 : tie.Need-slice-write-output-2 Inv-loop μ-loop
+slice-write-output-2 c = lt-length-set (c .before .before .loop .output) (3 * c .before .before .loop .i) _ (omega (arith, c .before .before .before .pre .room, c .before .before .loop .inv .size))
+
+cast-output-3 : tie.Need-cast-output-3 Inv-loop μ-loop
+cast-output-3 c = search needs
+
+add-output-2 : tie.Need-add-output-2 Inv-loop μ-loop
+add-output-2 c = search needs
+
+slice-write-output-3 : tie.Need-slice-write-output-3 Inv-loop μ-loop
+slice-write-output-3 c =
+    let at = c .before .before in
+    let x = getD (at .before .args .edges .now) (at .loop .i) 0 in
+    legs-room (at .before .pre) (at .loop .inv) (c .before .loop-test .taken) (fromOf x) (labelOf x)
+
+add-i : tie.Need-add-i Inv-loop μ-loop
+add-i c = search needs
+
+loop-less : tie.Need-loop-less Inv-loop μ-loop
+loop-less c = search needs
+
+loop-again : tie.Need-loop-again Inv-loop μ-loop
+loop-again c =
+    let at = c .before .before in
+    legs-turn (at .before .pre) (at .loop .inv) (c .before .loop-test .taken)
+
+same-length : tie.Need-same-length Inv-loop μ-loop
+same-length c = c .before .loop .inv .size
+
+returns : tie.Need-returns Inv-loop μ-loop
+returns c = legs-end (c .before .before .pre) (c .before .loop .inv) (c .loop-test .left)
+
+pub write-legs-spec : {M : Type 1} → statement M
+write-legs-spec =
+    tie.close
+    (tie.spec
+    Inv-loop
+    μ-loop
+    loop-holds
+    mul-x
+    shared-slice-read-x
+    mul-at
+    cast-output
+    slice-write-output
+    cast-output-2
+    add-output
+    slice-write-output-2
+    cast-output-3
+    add-output-2
+    slice-write-output-3
+    add-i
+    loop-less
+    loop-again
+    same-length
+    returns)

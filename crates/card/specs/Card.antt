@@ -1,0 +1,54 @@
+-- What the functions over a card's bytes find in them and need of them.
+use mathlib.Core.Path.{_≡_}
+use mathlib.Core.Bool.{true}
+use mathlib.Core.List.{List, [], _∷_, _++_}
+use Prim.Native.Nat.{ℕ, _+_, _-_, _*_, _≤_, _<_}
+use lib.ListN.{length}
+use Rattle.model.specs.Lists.{_∈_}
+use Rattle.model.specs.Limits.{mostVertices, mostEdges, mostLongest}
+use Rattle.model.specs.Edges.{fromOf, edge?}
+use Rattle.model.specs.Replies.{numberOf}
+use Rattle.calls.specs.Change.{Header}
+use Rattle.calls.specs.Card.{mark, wordBytes, headBytes, headerOf, countOf, cardRefusal}
+use Rattle.card.specs.declared.Checked.{Checked}
+use Rattle.card.specs.declared.Checked.the-variants.{Layout, Refused}
+
+-- all checks of the card alone have passed: its header, and the number of its legs
+pub record Passes (card : List ℕ) (h : Header) (n : ℕ) : Type 0 where
+  pub is : cardRefusal card ≡ 0
+  pub header : h ≡ headerOf card
+  pub count : n ≡ countOf card
+
+abbrev pub Checks : List ℕ → Checked → Type 0
+Checks card (Layout vertices longest n) = Passes card (record { vertices = vertices; longest = longest }) n
+Checks card (Refused r) = cardRefusal card ≡ numberOf r
+
+-- the n legs of a card have slots
+pub record Fillable (card : List ℕ) (n : ℕ) (edges : List ℕ) : Type 0 where
+  pub whole : length card ≡ headBytes + 3 * n
+  pub room : n ≤ length edges
+
+-- a header and edges of its graph, whose card the output has room for
+pub record Writable (h : Header) (edges output : List ℕ) : Type 0 where
+  pub vertices-least : 1 ≤ h .vertices
+  pub vertices-most : h .vertices ≤ mostVertices
+  pub longest-most : h .longest ≤ mostLongest
+  pub few : length edges ≤ mostEdges
+  pub valid : (x : ℕ) → x ∈ edges → edge? (h .vertices) x ≡ true
+  pub room : headBytes + 3 * length edges ≤ length output
+
+-- the first nine bytes of a card with n legs, and what fits in them
+abbrev pub headOf : ℕ → ℕ → ℕ → List ℕ
+headOf vertices longest n = mark ++ wordBytes 1 ++ ((vertices - 1) ∷ longest ∷ []) ++ wordBytes n
+
+pub record Head (vertices longest n : ℕ) (output : List ℕ) : Type 0 where
+  pub vertices-least : 1 ≤ vertices
+  pub vertices-most : vertices ≤ mostVertices
+  pub longest-most : longest ≤ mostLongest
+  pub few : n ≤ mostEdges
+  pub room : headBytes ≤ length output
+
+-- edges whose ends are bytes, with room for three bytes each
+pub record Legs (edges output : List ℕ) : Type 0 where
+  pub narrow : (x : ℕ) → x ∈ edges → fromOf x < 256
+  pub room : 3 * length edges ≤ length output

@@ -1,0 +1,172 @@
+// The layout card: checks of its bytes, its legs read into edge memory, and a card written.
+use model::Refusal;
+ghost use mathlib.Core.Path.{_≡_};
+ghost use mathlib.Core.List.{_++_};
+ghost use mathlib.Core.Bool.{Bool};
+ghost use Prim.Native.Nat.{_+_, _*_, _%_, _≤_, _<_};
+ghost use lib.ListN.{length, drop};
+ghost use Rattle.model.specs.Lists.{filled, spread};
+ghost use Rattle.calls.specs.Card.{headBytes, marked?, wordAt, edgeBytes, legAt, legAt?, edgesOf, risingLegs?, legs?, cardOf};
+ghost use Rattle.card.specs.Card.{Checks, Fillable, Head, headOf, Legs, Writable};
+
+// Mark, version, places less one, k and leg count; each leg is 3 bytes behind them.
+const HEAD: usize = 9;
+
+// What the checks of a card alone find: places, k and how many legs, or the refusal.
+pub enum Checked {
+    Layout(u32, u32, usize),
+    Refused(Refusal),
+}
+
+fn is_marked(card: &[u8]) -> bool
+    ensures { λ r. ⌜ r ≡ marked? (now (card .entry)) ⌝ }
+{
+    if card.len() < HEAD {
+        return false;
+    }
+    if card[0] != 80 {
+        return false;
+    }
+    if card[1] != 82 {
+        return false;
+    }
+    card[2] == 67
+}
+
+// A 16-bit number, high byte first.
+fn word(card: &[u8], at: usize) -> u32
+    requires { ⌜ at + 1 < length (now card) ⌝ }
+    ensures { λ r. ⌜ r ≡ wordAt (now (card .entry)) at ⌝ }
+{
+    card[at] as u32 * 256 + card[at + 1] as u32
+}
+
+// Whether the three bytes from `at` on name a leg of a layout with so many places. Ends and colour are compared as they stand.
+fn is_leg(vertices: u32, bytes: &[u8], at: usize) -> bool
+    requires { ⌜ at + 2 < length (now bytes) ⌝ }
+    ensures { λ r. ⌜ r ≡ legAt? vertices (now (bytes .entry)) at ⌝ }
+{
+    if checks::are_vertices(vertices, bytes[at] as u32, bytes[at + 2] as u32) {
+        return checks::is_label(bytes[at + 1] as u32);
+    }
+    false
+}
+
+// The number of the leg that they name.
+fn leg(bytes: &[u8], at: usize) -> u32
+    requires { ⌜ at + 2 < length (now bytes) ⌝ }
+    ensures { λ r. ⌜ r ≡ legAt (now (bytes .entry)) at ⌝ }
+{
+    bytes[at] as u32 * 4096 + bytes[at + 1] as u32 * 256 + bytes[at + 2] as u32
+}
+
+// Whether the legs named by the bytes are rising legs of a layout with so many places.
+fn are_rising(vertices: u32, body: &[u8]) -> bool
+    requires { ⌜ length (now body) % 3 ≡ 0 ⌝ }
+    ensures { λ r. ⌜ r ≡ risingLegs? vertices 0 (now (body .entry)) ⌝ }
+{
+    let mut prev: u32 = 0;
+    let mut i = 0;
+    while i < body.len() {
+        if is_leg(vertices, body, i) {
+            let x = leg(body, i);
+            if x <= prev {
+                return false;
+            }
+            prev = x;
+            i += 3;
+        } else {
+            return false;
+        }
+    }
+    true
+}
+
+// Check 16.
+fn has_legs(card: &[u8]) -> bool
+    requires { ⌜ headBytes ≤ length (now card) ⌝ }
+    ensures { λ r. ⌜ r ≡ legs? (now (card .entry)) ⌝ }
+{
+    let n = word(card, 7) as usize;
+    if card.len() != HEAD + 3 * n {
+        return false;
+    }
+    are_rising(card[5] as u32 + 1, &card[HEAD..])
+}
+
+// The checks of the card alone, in their order: 14 15 2 16.
+pub fn check(card: &[u8]) -> Checked
+    ensures { λ r. ⌜ Checks (now (card .entry)) r ⌝ }
+{
+    if is_marked(card) {
+        if word(card, 3) != 1 {
+            return Checked::Refused(Refusal::CardVersion);
+        }
+        let longest = card[6] as u32;
+        if checks::is_longest(longest) {
+            if has_legs(card) {
+                return Checked::Layout(card[5] as u32 + 1, longest, word(card, 7) as usize);
+            }
+            return Checked::Refused(Refusal::CardEdges);
+        }
+        return Checked::Refused(Refusal::Longest);
+    }
+    Checked::Refused(Refusal::CardMark)
+}
+
+// Fills edge memory with the n legs of a card, and zeros behind them.
+pub fn fill(card: &[u8], n: usize, edges: &mut [u32])
+    requires { ⌜ Fillable (now card) n (now edges) ⌝ }
+    ensures { λ _. ⌜ now (edges .exit) ≡ filled (length (now (edges .entry))) (edgesOf (drop headBytes (now (card .entry)))) ⌝ }
+{
+    let mut i = 0;
+    while i < n {
+        edges[i] = leg(card, HEAD + 3 * i);
+        i += 1;
+    }
+    edges::clear_edges(&mut edges[n..]);
+}
+
+// The mark first, then version, places less one, k and the leg count.
+fn write_head(vertices: u32, longest: u32, n: usize, output: &mut [u8])
+    requires { ⌜ Head vertices longest n (now output) ⌝ }
+    ensures { λ _. ⌜ now (output .exit) ≡ headOf vertices longest n ++ drop headBytes (now (output .entry)) ⌝ }
+{
+    output[0] = 80;
+    output[1] = 82;
+    output[2] = 67;
+    output[3] = 0;
+    output[4] = 1;
+    output[5] = (vertices - 1) as u8;
+    output[6] = longest as u8;
+    output[7] = (n / 256) as u8;
+    output[8] = (n % 256) as u8;
+}
+
+// From, colour and to of each edge.
+fn write_legs(edges: &[u32], output: &mut [u8])
+    requires { ⌜ Legs (now edges) (now output) ⌝ }
+    ensures { λ _. ⌜ now (output .exit) ≡ spread edgeBytes (now (edges .entry)) ++ drop (3 * length (now (edges .entry))) (now (output .entry)) ⌝ }
+{
+    let mut i = 0;
+    while i < edges.len() {
+        let x = edges[i];
+        let at = 3 * i;
+        output[at] = (x / 4096) as u8;
+        output[at + 1] = (x / 256 % 16) as u8;
+        output[at + 2] = (x % 256) as u8;
+        i += 1;
+    }
+}
+
+// Writes the card of a header and its edges to the front of the output, and nothing behind it.
+pub fn write(vertices: u32, longest: u32, edges: &[u32], output: &mut [u8])
+    requires { ⌜ Writable (record { vertices = vertices; longest = longest }) (now edges) (now output) ⌝ }
+    ensures { λ _. ⌜
+        now (output .exit) ≡ cardOf (record { vertices = vertices; longest = longest }) (now (edges .entry))
+        ++ drop (headBytes + 3 * length (now (edges .entry))) (now (output .entry))
+        ⌝ }
+{
+    write_head(vertices, longest, edges.len(), output);
+    write_legs(edges, &mut output[HEAD..]);
+}
