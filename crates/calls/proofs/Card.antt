@@ -1,23 +1,25 @@
 -- Laws of the card: what its checks leave, its legs by their places, and that reading and writing undo each other.
-use mathlib.Core.Path.{_≡_, refl, sym, ap, _∙_}
+use mathlib.Core.Path.{_≡_, refl, sym, ap, ap₂, _∙_}
 use mathlib.Core.Logic.{⊎-elim}
 use mathlib.Core.Bool.{Bool, true, false, _&&_}
-use mathlib.Core.List.{List, [], _∷_, _++_, List·Memᴰ·head, List·Memᴰ·tail, List·Memᴰ·cases-cons, List·Memᴰ·not-nil}
+use mathlib.Core.List.{List, [], _∷_, List·Memᴰ·head, List·Memᴰ·tail, List·Memᴰ·cases-cons, List·Memᴰ·not-nil}
 use Prim.Native.Nat.{ℕ, zero, suc, _+_, _-_, _*_, _/_, _%_, _≤_, _<_}
 use native.Mathlib.Nat.{le-of-suc-le-suc, not-suc-le-zero}
 use native.Mathlib.Omega.{arith}
-use lib.Dec.{eqb, ltb, leb}
-use lib.ListN.{length, getD, take, drop, length-append, drop-of-length-le}
-use lib.Seq.{drop-cons}
-use Rattle.model.specs.Lists.{_∈_, same?, spread, Rising, none, next}
+use lib.Dec.{eqb, ltb}
+use lib.ListN.{length, getD, take, drop, length-drop, drop-of-length-le}
+use lib.Seq.{drop-cons, getD-take}
+use Rattle.model.specs.Lists.{_∈_, spread, Rising, none, next}
 use Rattle.model.specs.Limits.{mostVertices, mostEdges, mostLabel, mostLongest}
-use Rattle.model.specs.Edges.{edgeNumber, fromOf, labelOf, toOf, label?, edge?}
-use Rattle.model.proofs.Tests.{Tests, test-and, test-le, test-lt, test-eq, test-same, test-true, test-false, test-yields}
-use Rattle.model.proofs.Edges.{edge-fields, IsEdge, test-edge}
-use Rattle.calls.specs.Checks.{ends?, longest?, Check, firstRefusal}
+use Rattle.model.specs.Edges.{edgeNumber, fromOf, labelOf, toOf, edge?}
+use Rattle.model.proofs.Tests.{Tests, test-map, test-and, test-le, test-lt, test-eq, test-same, test-true, test-false, test-yields}
+use Rattle.model.proofs.Lists.{in-getD}
+use Rattle.model.proofs.Edges.{edge-fields, test-edge}
+use Rattle.model.proofs.Memory.{edge-least}
+use Rattle.calls.specs.Checks.{longest?}
 use Rattle.calls.specs.Change.{Header}
 use Rattle.calls.specs.Card.{Bytes, mark, wordAt, headBytes, edgeBytes, legAt, legAt?, cardOf, marked?, version?, headerOf, countOf, edgesOf, risingLegs?, legs?, cardChecks, cardRefusal}
-use Rattle.calls.proofs.Checks.{First, none as all-pass, pass, stop, first-is, test-ends, test-longest}
+use Rattle.calls.proofs.Checks.{First, none as all-pass, pass, first-is, passed, test-ends, test-longest}
 
 -- the first of two tests
 pub and-pass : {a b : Bool} → a ≡ true → (a && b) ≡ b
@@ -141,3 +143,224 @@ getD-bytes (x ∷ l) (suc i) h =
     let q : suc (suc (suc (3 * i))) + 2 ≡ suc (suc (suc (3 * i + 2))) = omega arith in
     let r = getD-bytes l i (le-of-suc-le-suc h) in
     record { from = rw e (r .from); label = rw (e, p) (r .label); to = rw (e, q) (r .to) }
+
+-- ---- what passed checks leave
+
+-- three bytes that name a leg above prev
+pub record Leg (vertices prev from label to : ℕ) : Type 0 where
+  pub from-place : from < vertices
+  pub to-place : to < vertices
+  pub label-least : 1 ≤ label
+  pub label-most : label ≤ mostLabel
+  pub above : prev < edgeNumber from label to
+
+-- a test, as the statement that it passes
+test-is : (b : Bool) → Tests b (b ≡ true)
+test-is true = record { yields = λ _. refl; passes = λ _. tt }
+test-is false = record { yields = λ t. absurd t; passes = λ e. absurd (let z : _≡_ {A = ℕ} 0 1 = cc in omega arith) }
+
+test-legs : (vertices prev from label to : ℕ) (more : List ℕ)
+    → Tests (risingLegs? vertices prev (from ∷ label ∷ to ∷ more))
+    (Leg vertices prev from label to × (risingLegs? vertices (edgeNumber from label to) more ≡ true))
+unfolding risingLegs?
+test-legs vertices prev from label to more =
+    let x = edgeNumber from label to in
+    test-map
+    (λ h. (record { from-place = h .0 .0 .0; to-place = h .0 .0 .1; label-least = h .0 .1 .0; label-most = h .0 .1 .1; above = h .1 .0 }, h .1 .1))
+    (λ h. let l = h .0 in (((l .from-place, l .to-place), (l .label-least, l .label-most)), (l .above, h .1)))
+    (test-and
+    (test-and (test-ends vertices from to) (test-and (test-le 1 label) (test-le label mostLabel)))
+    (test-and (test-lt prev x) (test-is (risingLegs? vertices x more))))
+
+-- such a leg is an edge, and its number has those fields
+module _ {vertices prev from label to : ℕ} (few : vertices ≤ mostVertices) (l : Leg vertices prev from label to) where
+  leg-fields : (fromOf (edgeNumber from label to) ≡ from) × (labelOf (edgeNumber from label to) ≡ label) × (toOf (edgeNumber from label to) ≡ to)
+  leg-fields = edge-fields from label to (omega (arith, l .label-most)) (omega (arith, l .to-place))
+
+  leg-edge : edge? vertices (edgeNumber from label to) ≡ true
+  leg-edge =
+      let (a, b, c) = leg-fields in
+      test-true (test-edge vertices (edgeNumber from label to))
+      (record { from = rw a (l .from-place); label-low = rw b (l .label-least); label-high = rw b (l .label-most); to = rw c (l .to-place) })
+
+not-false : {A : Type 0} → _≡_ {A = Bool} false true → A
+not-false e = absurd (let z : _≡_ {A = ℕ} 0 1 = cc in omega arith)
+
+-- legs that pass: edges of the graph, rising from above prev
+pub record LegsGood (vertices prev : ℕ) (body : List ℕ) : Type 0 where
+  pub rising : Rising (edgesOf body)
+  pub each : (x : ℕ) → x ∈ edgesOf body → (prev < x) × (edge? vertices x ≡ true)
+
+pub legs-good : (vertices prev : ℕ) (body : List ℕ) → risingLegs? vertices prev body ≡ true → vertices ≤ mostVertices → LegsGood vertices prev body
+unfolding edgesOf risingLegs?
+legs-good vertices prev [] e h = record { rising = none; each = λ x m. absurd (List·Memᴰ·not-nil m) }
+legs-good vertices prev (a ∷ []) e h = not-false e
+legs-good vertices prev (a ∷ b ∷ []) e h = not-false e
+legs-good vertices prev (a ∷ b ∷ c ∷ more) e h =
+    let (l, r) = test-yields (test-legs vertices prev a b c more) e in
+    let o = legs-good vertices (edgeNumber a b c) more r h in
+    record {
+      rising = next (λ z m. o .each z m .0) (o .rising);
+      each = λ x m.
+          ⊎-elim (λ q. rw q (l .above, leg-edge h l)) (λ k. let (p, q) = o .each x k in (omega (arith, p, l .above), q)) (List·Memᴰ·cases-cons m);
+    }
+
+-- a card that passes the checks of the card alone
+pub record CardGood (card : List ℕ) : Type 0 where
+  pub marked : marked? card ≡ true
+  pub version : version? card ≡ true
+  pub longest-least : 1 ≤ headerOf card .longest
+  pub longest-most : headerOf card .longest ≤ mostLongest
+  pub whole : length card ≡ headBytes + 3 * countOf card
+  pub legs : risingLegs? (headerOf card .vertices) 0 (drop headBytes card) ≡ true
+  pub count : length (edgesOf (drop headBytes card)) ≡ countOf card
+
+pub card-good : (card : List ℕ) → cardRefusal card ≡ 0 → CardGood card
+unfolding cardRefusal legs?
+card-good card e =
+    let a = passed 14 (marked? card) ((15, version? card) ∷ (2, longest? (headerOf card .longest)) ∷ (16, legs? card) ∷ []) (omega arith) e in
+    let b = passed 15 (version? card) ((2, longest? (headerOf card .longest)) ∷ (16, legs? card) ∷ []) (omega arith) (a .after) in
+    let c = passed 2 (longest? (headerOf card .longest)) ((16, legs? card) ∷ []) (omega arith) (b .after) in
+    let d = passed 16 (legs? card) [] (omega arith) (c .after) in
+    let k = test-yields (test-longest (headerOf card .longest)) (c .here) in
+    let (w, r) = test-yields
+    (test-and (test-eq (length card) (headBytes + 3 * countOf card)) (test-is (risingLegs? (headerOf card .vertices) 0 (drop headBytes card))))
+    (d .here) in
+    record {
+      marked = a .here;
+      version = b .here;
+      longest-least = k .0;
+      longest-most = k .1;
+      whole = w;
+      legs = r;
+      count = length-edges (countOf card) (drop headBytes card) (length-drop headBytes card ∙ omega (arith, w));
+    }
+
+pub byte-at : (card : List ℕ) → Bytes card → (i : ℕ) → getD card i 0 < 256
+byte-at [] f i = omega arith
+byte-at (x ∷ l) f zero = f x (List·Memᴰ·head refl)
+byte-at (x ∷ l) f (suc i) = byte-at l (λ z m. f z (List·Memᴰ·tail m)) i
+
+-- a slice of bytes, as a function knows it
+pub bytes-known : (l : List ℕ) → ((i : ℕ) → getD l i 0 < 256) → Bytes l
+bytes-known l f x m = let k = in-getD m in rw (k .is) at (f (k .i))
+
+-- a card of bytes has at most 256 places
+pub card-vertices : (card : List ℕ) → Bytes card → headerOf card .vertices ≤ mostVertices
+card-vertices card f = omega (arith, byte-at card f 5)
+
+-- ---- reading undoes writing
+
+pub edges-bytes : (edges : List ℕ) → edgesOf (spread edgeBytes edges) ≡ edges
+unfolding edgesOf spread
+edges-bytes [] = refl
+edges-bytes (x ∷ l) =
+    let e : edgeNumber (fromOf x) (labelOf x) (toOf x) ≡ x = omega arith in
+    ap₂ _∷_ e (edges-bytes l)
+
+-- edges of the graph, rising from above prev, pass as legs
+pub legs-pass : (vertices : ℕ) {edges : List ℕ} (prev : ℕ) → Rising edges → ((x : ℕ) → x ∈ edges → (prev < x) × (edge? vertices x ≡ true))
+    → risingLegs? vertices prev (spread edgeBytes edges) ≡ true
+unfolding spread risingLegs?
+legs-pass vertices prev none f = refl
+legs-pass vertices prev (next {x = x} {l = l} h s) f =
+    let (a, b) = f x (List·Memᴰ·head refl) in
+    let e : edgeNumber (fromOf x) (labelOf x) (toOf x) ≡ x = omega arith in
+    let t = test-yields (test-edge vertices x) b in
+    let r = legs-pass vertices x s (λ z m. (h z m, f z (List·Memᴰ·tail m) .1)) in
+    test-true (test-legs vertices prev (fromOf x) (labelOf x) (toOf x) (spread edgeBytes l))
+    (record { from-place = t .from; to-place = t .to; label-least = t .label-low; label-most = t .label-high; above = rw e a }, rw e r)
+
+bytes-cons : {x : ℕ} {l : List ℕ} → x < 256 → Bytes l → Bytes (x ∷ l)
+bytes-cons h f z m = ⊎-elim (λ e. omega (arith, e, h)) (λ k. f z k) (List·Memᴰ·cases-cons m)
+
+-- the bytes of edges are below 256
+bytes-edges : (vertices : ℕ) → vertices ≤ mostVertices → (edges : List ℕ) → ((x : ℕ) → x ∈ edges → edge? vertices x ≡ true) → Bytes (spread edgeBytes edges)
+unfolding spread
+bytes-edges vertices few [] f = λ x m. absurd (List·Memᴰ·not-nil m)
+bytes-edges vertices few (x ∷ l) f =
+    let t = test-yields (test-edge vertices x) (f x (List·Memᴰ·head refl)) in
+    bytes-cons (omega (arith, t .from)) (bytes-cons (omega arith) (bytes-cons (omega arith) (bytes-edges vertices few l (λ z m. f z (List·Memᴰ·tail m)))))
+
+-- a header and rising edges of its graph, as a card holds them
+pub record Cardable (h : Header) (edges : List ℕ) : Type 0 where
+  pub vertices-least : 1 ≤ h .vertices
+  pub vertices-most : h .vertices ≤ mostVertices
+  pub longest-least : 1 ≤ h .longest
+  pub longest-most : h .longest ≤ mostLongest
+  pub few : length edges ≤ mostEdges
+  pub rising : Rising edges
+  pub valid : (x : ℕ) → x ∈ edges → edge? (h .vertices) x ≡ true
+
+-- their card passes, and says them
+pub record CardSays (card : List ℕ) (h : Header) (edges : List ℕ) : Type 0 where
+  pub passes : cardRefusal card ≡ 0
+  pub header : headerOf card ≡ h
+  pub count : countOf card ≡ length edges
+  pub legs : edgesOf (drop headBytes card) ≡ edges
+  pub bytes : Bytes card
+  pub size : length card ≡ headBytes + 3 * length edges
+
+pub card-says : {h : Header} {edges : List ℕ} → Cardable h edges → CardSays (cardOf h edges) h edges
+unfolding cardOf
+card-says {h} {edges} c =
+    let places : h .vertices - 1 + 1 ≡ h .vertices = omega (arith, c .vertices-least) in
+    let n : length edges / 256 * 256 + length edges % 256 ≡ length edges = omega arith in
+    let size : length (cardOf h edges) ≡ headBytes + 3 * length edges = omega (arith, length-bytes edges) in
+    let rises = legs-pass (h .vertices) 0 (c .rising) (λ x m. (omega (arith, edge-least (h .vertices) x (c .valid x m)), c .valid x m)) in
+    record {
+      passes = card-is (cardOf h edges)
+          (pass (test-true (test-marked (cardOf h edges)) (omega (arith, size), refl))
+          (pass refl
+          (pass (test-true (test-longest (h .longest)) (c .longest-least, c .longest-most))
+          (pass (legs-body (cardOf h edges) (size ∙ ap (λ (k : ℕ). headBytes + 3 * k) (sym n)) ∙ rw places rises) all-pass))));
+      header = ap (λ (v : ℕ). record { vertices = v; longest = h .longest }) places;
+      count = n;
+      legs = edges-bytes edges;
+      bytes =
+          bytes-cons (omega arith) (bytes-cons (omega arith) (bytes-cons (omega arith) (bytes-cons (omega arith) (bytes-cons (omega arith)
+          (bytes-cons (omega (arith, c .vertices-most)) (bytes-cons (omega (arith, c .longest-most))
+          (bytes-cons (omega (arith, c .few)) (bytes-cons (omega arith) (bytes-edges (h .vertices) (c .vertices-most) edges (c .valid))))))))));
+      size = size;
+    }
+
+-- ---- writing undoes reading
+
+-- legs that pass are the bytes of the edges that they name
+pub bytes-legs : (vertices prev : ℕ) (body : List ℕ) → risingLegs? vertices prev body ≡ true → vertices ≤ mostVertices → spread edgeBytes (edgesOf body) ≡ body
+unfolding edgesOf risingLegs? spread
+bytes-legs vertices prev [] e h = refl
+bytes-legs vertices prev (a ∷ []) e h = not-false e
+bytes-legs vertices prev (a ∷ b ∷ []) e h = not-false e
+bytes-legs vertices prev (a ∷ b ∷ c ∷ more) e h =
+    let (l, r) = test-yields (test-legs vertices prev a b c more) e in
+    let (p, q, s) = leg-fields h l in
+    ap₂ _∷_ p (ap₂ _∷_ q (ap₂ _∷_ s (bytes-legs vertices (edgeNumber a b c) more r h)))
+
+-- the bytes of a head
+card-split : (card : List ℕ) → headBytes ≤ length card
+    → card ≡ getD card 0 0 ∷ getD card 1 0 ∷ getD card 2 0 ∷ getD card 3 0 ∷ getD card 4 0 ∷ getD card 5 0 ∷ getD card 6 0 ∷ getD card 7 0 ∷ getD card 8 0 ∷ drop headBytes card
+card-split card h =
+    drop-three card 0 (omega arith)
+    ∙ ap (λ (l : List ℕ). getD card 0 0 ∷ getD card 1 0 ∷ getD card 2 0 ∷ l) (drop-three card 3 (omega arith)
+    ∙ ap (λ (l : List ℕ). getD card 3 0 ∷ getD card 4 0 ∷ getD card 5 0 ∷ l) (drop-three card 6 (omega arith)))
+
+pub card-again : (card : List ℕ) → cardRefusal card ≡ 0 → Bytes card → cardOf (headerOf card) (edgesOf (drop headBytes card)) ≡ card
+unfolding cardOf
+card-again card e f =
+    let g = card-good card e in
+    let m = test-yields (test-marked card) (g .marked) in
+    let v = test-yields (test-eq (wordAt card 3) 1) (g .version) in
+    let n = length (edgesOf (drop headBytes card)) in
+    let high : n / 256 ≡ getD card 7 0 = omega (arith, g .count, byte-at card f 8) in
+    let low : n % 256 ≡ getD card 8 0 = omega (arith, g .count, byte-at card f 8) in
+    let places : getD card 5 0 + 1 - 1 ≡ getD card 5 0 = omega arith in
+    let version-high : 0 ≡ getD card 3 0 = omega (arith, v) in
+    let version-low : 1 ≡ getD card 4 0 = omega (arith, v) in
+    let legs = bytes-legs (headerOf card .vertices) 0 (drop headBytes card) (g .legs) (card-vertices card f) in
+    ap₂ _∷_ (letter m 0 (omega arith)) (ap₂ _∷_ (letter m 1 (omega arith)) (ap₂ _∷_ (letter m 2 (omega arith))
+    (ap₂ _∷_ version-high (ap₂ _∷_ version-low (ap₂ _∷_ places (ap₂ _∷_ refl (ap₂ _∷_ high (ap₂ _∷_ low legs))))))))
+    ∙ sym (card-split card (m .0))
+  where
+    letter : (headBytes ≤ length card) × (take 3 card ≡ mark) → (i : ℕ) → i < 3 → getD mark i 0 ≡ getD card i 0
+    letter m i h = ap (λ (l : List ℕ). getD l i 0) (sym (m .1)) ∙ getD-take 3 card i 0 h

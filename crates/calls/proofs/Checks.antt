@@ -20,6 +20,16 @@ first-is none = refl
 first-is (pass e f) = rw e (first-is f)
 first-is (stop e) = rw e
 
+-- where none refuses, the first has passed, and those after it
+pub record Passed (b : Bool) (later : List Check) : Type 0 where
+  pub here : b ≡ true
+  pub after : firstRefusal later ≡ 0
+
+pub passed : (n : ℕ) (b : Bool) (later : List Check) → 1 ≤ n → firstRefusal ((n, b) ∷ later) ≡ 0 → Passed b later
+unfolding firstRefusal
+passed n true later h e = record { here = refl; after = e }
+passed n false later h e = absurd (omega arith)
+
 -- ---- the record's checks
 
 record Both (a b : Bool) : Type 0 where

@@ -3,7 +3,7 @@ use mathlib.Core.Path.{_≡_, sym, ap, _∙_}
 use mathlib.Core.List.{List, _++_}
 use Prim.Native.Nat.{ℕ, _+_, _-_, _*_, _≤_, _<_}
 use native.Mathlib.Omega.{arith}
-use lib.ListN.{length, getD, take, drop, set, length-drop, length-set, List·getD-append}
+use lib.ListN.{length, getD, take, drop, set, length-drop, List·getD-append}
 use lib.Seq.{drop-drop}
 use Rattle.model.specs.Lists.{spread}
 use Rattle.model.specs.Edges.{fromOf, labelOf, toOf}
@@ -37,10 +37,6 @@ module _ {edges out : List ℕ} (p : Legs edges out) where
   leg-narrow i h = p .narrow (getD edges i 0) (getD-in edges i h)
 
   module _ {cur : List ℕ} {i : ℕ} (m : Mixed (legsOver edges out) out cur (3 * i)) where
-    -- there is room for the last byte of a leg
-    pub legs-room : i < length edges → (a b : ℕ) → 3 * i + 2 < length (set (set cur (3 * i) a) (3 * i + 1) b)
-    legs-room h a b = rw (length-set, length-set) (omega (arith, m .size, p .room, h))
-
     pub legs-turn : i < length edges
         → Mixed (legsOver edges out) out
         (set (set (set cur (3 * i) (fromOf (getD edges i 0))) (3 * i + 1) (labelOf (getD edges i 0))) (3 * i + 2) (toOf (getD edges i 0)))

@@ -38,7 +38,9 @@ fn word(card: &[u8], at: usize) -> u32
     requires { ⌜ at + 1 < length (now card) ⌝ }
     ensures { λ r. ⌜ r ≡ wordAt (now (card .entry)) at ⌝ }
 {
-    card[at] as u32 * 256 + card[at + 1] as u32
+    let high = card[at] as u32;
+    let low = card[at + 1] as u32;
+    high * 256 + low
 }
 
 // Whether the three bytes from `at` on name a leg of a layout with so many places. Ends and colour are compared as they stand.
@@ -46,8 +48,11 @@ fn is_leg(vertices: u32, bytes: &[u8], at: usize) -> bool
     requires { ⌜ at + 2 < length (now bytes) ⌝ }
     ensures { λ r. ⌜ r ≡ legAt? vertices (now (bytes .entry)) at ⌝ }
 {
-    if checks::are_vertices(vertices, bytes[at] as u32, bytes[at + 2] as u32) {
-        return checks::is_label(bytes[at + 1] as u32);
+    let from = bytes[at] as u32;
+    let label = bytes[at + 1] as u32;
+    let to = bytes[at + 2] as u32;
+    if checks::are_vertices(vertices, from, to) {
+        return checks::is_label(label);
     }
     false
 }

@@ -2,7 +2,8 @@
 use mathlib.Core.List.{[], _∷_}
 use Prim.Native.Nat.{_-_, _/_}
 use native.Mathlib.Omega.{arith}
-use lib.Seq.{lt-length-sets, sets-eq}
+use lib.ListN.{length-set}
+use lib.Seq.{sets-eq}
 use Rattle.card.specs.Card.{headOf}
 use borrow.Author.Needs.{needs}
 use Rattle.card.proofs.write_head.Statement.{statement}
@@ -12,16 +13,16 @@ slice-write-output : tie.Need-slice-write-output
 slice-write-output c = search needs
 
 slice-write-output-2 : tie.Need-slice-write-output-2
-slice-write-output-2 c = lt-length-sets (c .args .output .now) 0 (80 ∷ []) (omega (arith, c .pre .room))
+slice-write-output-2 c = simp length-set (omega arith)
 
 slice-write-output-3 : tie.Need-slice-write-output-3
-slice-write-output-3 c = lt-length-sets (c .args .output .now) 0 (80 ∷ 82 ∷ []) (omega (arith, c .pre .room))
+slice-write-output-3 c = simp length-set (omega arith)
 
 slice-write-output-4 : tie.Need-slice-write-output-4
-slice-write-output-4 c = lt-length-sets (c .args .output .now) 0 (80 ∷ 82 ∷ 67 ∷ []) (omega (arith, c .pre .room))
+slice-write-output-4 c = simp length-set (omega arith)
 
 slice-write-output-5 : tie.Need-slice-write-output-5
-slice-write-output-5 c = lt-length-sets (c .args .output .now) 0 (80 ∷ 82 ∷ 67 ∷ 0 ∷ []) (omega (arith, c .pre .room))
+slice-write-output-5 c = simp length-set (omega arith)
 
 sub-output : tie.Need-sub-output
 sub-output c = search needs
@@ -30,25 +31,25 @@ cast-output : tie.Need-cast-output
 cast-output c = search needs
 
 slice-write-output-6 : tie.Need-slice-write-output-6
-slice-write-output-6 c = lt-length-sets (c .args .output .now) 0 (80 ∷ 82 ∷ 67 ∷ 0 ∷ 1 ∷ []) (omega (arith, c .pre .room))
+slice-write-output-6 c = simp length-set (omega arith)
 
 cast-output-2 : tie.Need-cast-output-2
 cast-output-2 c = search needs
 
 slice-write-output-7 : tie.Need-slice-write-output-7
-slice-write-output-7 c = lt-length-sets (c .args .output .now) 0 (80 ∷ 82 ∷ 67 ∷ 0 ∷ 1 ∷ (c .args .vertices - 1) ∷ []) (omega (arith, c .pre .room))
+slice-write-output-7 c = simp length-set (omega arith)
 
 cast-output-3 : tie.Need-cast-output-3
 cast-output-3 c = search needs
 
 slice-write-output-8 : tie.Need-slice-write-output-8
-slice-write-output-8 c = lt-length-sets (c .args .output .now) 0 (80 ∷ 82 ∷ 67 ∷ 0 ∷ 1 ∷ (c .args .vertices - 1) ∷ c .args .longest ∷ []) (omega (arith, c .pre .room))
+slice-write-output-8 c = simp length-set (omega arith)
 
 cast-output-4 : tie.Need-cast-output-4
 cast-output-4 c = search needs
 
 slice-write-output-9 : tie.Need-slice-write-output-9
-slice-write-output-9 c = lt-length-sets (c .args .output .now) 0 (80 ∷ 82 ∷ 67 ∷ 0 ∷ 1 ∷ (c .args .vertices - 1) ∷ c .args .longest ∷ (c .args .n / 256) ∷ []) (omega (arith, c .pre .room))
+slice-write-output-9 c = simp length-set (omega arith)
 
 same-length : tie.Need-same-length
 same-length c = search needs

@@ -1,11 +1,9 @@
 -- `card::write_legs` meets its contract. The invariant: the first i legs are written, and the bytes behind them are as they came.
 use Prim.Native.Nat.{_-_, _*_}
 use native.Mathlib.Omega.{arith}
-use lib.ListN.{length, getD}
-use lib.Seq.{lt-length-set}
-use Rattle.model.specs.Edges.{fromOf, labelOf}
+use lib.ListN.{length, length-set}
 use Rattle.edges.proofs.Mix.{Mixed}
-use Rattle.card.proofs.Writing.{legsOver, legs-start, leg-narrow, legs-room, legs-turn, legs-end}
+use Rattle.card.proofs.Writing.{legsOver, legs-start, leg-narrow, legs-turn, legs-end}
 use borrow.Author.Needs.{needs}
 use Rattle.card.proofs.write_legs.Statement.{statement}
 use Rattle.card.proofs.write_legs.Tie as tie
@@ -43,7 +41,7 @@ add-output : tie.Need-add-output Inv-loop μ-loop
 add-output c = search needs
 
 slice-write-output-2 : tie.Need-slice-write-output-2 Inv-loop μ-loop
-slice-write-output-2 c = lt-length-set (c .before .before .loop .output) (3 * c .before .before .loop .i) _ (omega (arith, c .before .before .before .pre .room, c .before .before .loop .inv .size))
+slice-write-output-2 c = simp length-set (omega (arith, c .before .before .before .pre .room, c .before .before .loop .inv .size))
 
 cast-output-3 : tie.Need-cast-output-3 Inv-loop μ-loop
 cast-output-3 c = search needs
@@ -52,10 +50,7 @@ add-output-2 : tie.Need-add-output-2 Inv-loop μ-loop
 add-output-2 c = search needs
 
 slice-write-output-3 : tie.Need-slice-write-output-3 Inv-loop μ-loop
-slice-write-output-3 c =
-    let at = c .before .before in
-    let x = getD (at .before .args .edges .now) (at .loop .i) 0 in
-    legs-room (at .before .pre) (at .loop .inv) (c .before .loop-test .taken) (fromOf x) (labelOf x)
+slice-write-output-3 c = simp length-set (omega (arith, c .before .before .before .pre .room, c .before .before .loop .inv .size))
 
 add-i : tie.Need-add-i Inv-loop μ-loop
 add-i c = search needs
