@@ -2,21 +2,24 @@
 use mathlib.Core.Path.{_≡_, refl, sym, ap, _∙_}
 use mathlib.Core.Bool.{Bool, true, false}
 use mathlib.Core.List.{List, [], _∷_, _++_}
-use Prim.Native.Nat.{ℕ, zero, suc, _≤_, _<_}
+use Prim.Native.Nat.{ℕ, zero, suc, _+_, _≤_, _<_}
 use native.Mathlib.Omega.{arith}
 use lib.Dec.{T, leb}
 use lib.ListN.{length}
-use Rattle.model.specs.Lists.{all?, filled, zeroed}
+use Rattle.model.specs.Lists.{filled, zeroed}
+use Rattle.model.specs.Limits.{mostLabel, leastWork}
+use Rattle.model.specs.Edges.{edgeMemory?}
 use Rattle.model.specs.Replies.{numberOf, answerOf}
 use Rattle.model.specs.Entries.{determined}
 use Rattle.model.specs.declared.Refusal.{Refusal}
 use Rattle.model.specs.declared.Answer.{Answer}
 use Rattle.model.specs.declared.Answer.the-variants.{Accepted, Refused}
 use Rattle.model.specs.declared.Refusal.the-variants.{IndexSlots}
-use Rattle.model.proofs.Tests.{test-le, test-true, test-false}
+use Rattle.model.proofs.Tests.{test-and, test-le, test-true, test-false, test-yields}
 use Rattle.model.proofs.Replies.{number-some}
-use Rattle.calls.specs.Checks.{Check, firstRefusal}
-use Rattle.calls.specs.Change.{Header, graphOf, Memory, Handed, back, Change, changedWith, Leaves, fits?, settle}
+use Rattle.calls.specs.Checks.{vertices?, longest?, ends?, Check, firstRefusal}
+use Rattle.calls.specs.Change.{Header, graphOf, Memory, Handed, back, Change, changedWith, buildRoom?, Leaves, fits?, settle, changeChecks, changeRefusal}
+use Rattle.calls.proofs.Checks.{Header as Bounds, test-vertices, test-longest, test-ends}
 
 -- ---- checks, and then further ones
 
@@ -25,6 +28,18 @@ abbrev pub numbered? : List Check → Bool
 numbered? [] = true
 numbered? ((zero, b) ∷ l) = false
 numbered? ((suc n, b) ∷ l) = numbered? l
+
+-- where none refuses, each passes
+pub data Passed : List Check → Type 0 where
+  done : Passed []
+  also : {n : ℕ} {b : Bool} {l : List Check} → b ≡ true → Passed l → Passed ((n, b) ∷ l)
+
+pub passes : (l : List Check) → T (numbered? l) → firstRefusal l ≡ 0 → Passed l
+unfolding firstRefusal
+passes [] q e = done
+passes ((zero, b) ∷ l) q e = absurd q
+passes ((suc n, true) ∷ l) q e = also refl (passes l q e)
+passes ((suc n, false) ∷ l) q e = absurd (omega arith)
 
 pub stop-first : (l later : List Check) {n : ℕ} → firstRefusal l ≡ n → 1 ≤ n → firstRefusal (l ++ later) ≡ n
 unfolding firstRefusal
@@ -38,6 +53,36 @@ pass-first [] later q e = refl
 pass-first ((zero, b) ∷ l) later q e = absurd q
 pass-first ((suc n, true) ∷ l) later q e = pass-first l later q e
 pass-first ((suc n, false) ∷ l) later q e = absurd (omega arith)
+
+-- what the checks 1 to 6 leave
+pub record Good (h : Header) (from label to : ℕ) (m : Memory) : Type 0 where
+  pub header : Bounds (h .vertices) (h .longest)
+  pub memory : edgeMemory? (h .vertices) (m .edges) ≡ true
+  pub room : leastWork + length (m .index) ≤ length (m .work)
+  pub from-vertex : from < h .vertices
+  pub to-vertex : to < h .vertices
+  pub label-least : 1 ≤ label
+  pub label-most : label ≤ mostLabel
+
+good : (h : Header) (from label to : ℕ) (m : Memory) → Passed (changeChecks h from label to m) → Good h from label to m
+good h from label to m (also vertices (also longest (also memory (also room (also ends (also a-label done)))))) =
+    let (v, w) = test-yields (test-vertices (h .vertices)) vertices in
+    let (k, l) = test-yields (test-longest (h .longest)) longest in
+    let (a, b) = test-yields (test-ends (h .vertices) from to) ends in
+    let (c, d) = test-yields (test-and (test-le 1 label) (test-le label mostLabel)) a-label in
+    record {
+      header = record { vertices-least = v; vertices-most = w; longest-least = k; longest-most = l };
+      memory = memory;
+      room = test-yields (test-le (leastWork + length (m .index)) (length (m .work))) room;
+      from-vertex = a;
+      to-vertex = b;
+      label-least = c;
+      label-most = d;
+    }
+
+pub change-good : (h : Header) (from label to : ℕ) (m : Memory) → changeRefusal h from label to m ≡ 0 → Good h from label to m
+unfolding changeRefusal
+change-good h from label to m e = good h from label to m (passes (changeChecks h from label to m) tt e)
 
 -- ---- what a call leaves
 

@@ -1,10 +1,13 @@
-// The checks that calls share and that no other crate owns: the record (1 and 2), ends (5 and 10), and a label (6).
+// The checks that calls share and that no other crate owns: the record (1 and 2), room to build (4), ends (5 and 10), and a label (6).
 use model::Answer;
 use model::Refusal;
 ghost use mathlib.Core.Path.{_≡_};
 ghost use mathlib.Core.Bool.{Bool};
+ghost use Prim.Native.Nat.{_+_};
+ghost use lib.Dec.{leb};
 ghost use Rattle.model.specs.Replies.{answerOf};
 ghost use Rattle.model.specs.Edges.{label?};
+ghost use Rattle.model.specs.Limits.{leastWork};
 ghost use Rattle.calls.specs.Checks.{headerRefusal, longest?, ends?};
 
 const MOST_VERTICES: u32 = 256;
@@ -12,6 +15,8 @@ const MOST_VERTICES: u32 = 256;
 const MOST_LONGEST: u32 = 4;
 
 const MOST_LABEL: u32 = 8;
+
+const LEAST_WORK: usize = 4096;
 
 // Checks 1 and 2: vertices 1 to 256, longest pattern 1 to 4.
 pub fn check_header(vertices: u32, longest: u32) -> Answer
@@ -40,6 +45,16 @@ pub fn is_longest(longest: u32) -> bool
         return false;
     }
     longest <= MOST_LONGEST
+}
+
+// Check 4 where an index is built: at least 4,096 numbers, and one more for each index slot.
+pub fn has_room(slots: usize, numbers: usize) -> bool
+    ensures { λ r. ⌜ r ≡ leb (leastWork + slots) numbers ⌝ }
+{
+    if numbers < LEAST_WORK {
+        return false;
+    }
+    slots <= numbers - LEAST_WORK
 }
 
 // Check 6: a label is 1 to 8.

@@ -1,0 +1,110 @@
+-- From the checks 1 to 6 to the lookup of the named edge, and from what it finds to the refusal of an insertion or a removal.
+use mathlib.Core.Path.{_≡_, sym, ap, _∙_}
+use mathlib.Core.Bool.{true, false, not}
+use mathlib.Core.List.{List}
+use Prim.Native.Nat.{ℕ, _≤_, _<_}
+use native.Mathlib.Omega.{arith}
+use lib.ListN.{length, getD, take}
+use lib.Seq.{getD-take}
+use Rattle.model.specs.Lists.{_∈_, mem?, Rising}
+use Rattle.model.specs.Edges.{edgeNumber, edgeMemory?, standing}
+use Rattle.model.specs.Replies.{numberOf}
+use Rattle.model.specs.declared.Refusal.{Refusal}
+use Rattle.model.proofs.Replies.{number-some}
+use Rattle.model.proofs.Tests.{test-true, test-false, test-mem, test-not, test-lt}
+use Rattle.edges.specs.Memory.{scanOf, findOf}
+use Rattle.edges.specs.declared.Scanned.the-variants.{Edges}
+use Rattle.edges.specs.declared.Found.the-variants.{At, Before}
+use Rattle.edges.proofs.Memory.{Scans, scans, Stands, stands, Lacks, lacks}
+use Rattle.calls.specs.Checks.{firstRefusal}
+use Rattle.calls.specs.Change.{Header, Memory, changeChecks, changeRefusal, insertRefusal, removeRefusal}
+use Rattle.calls.proofs.Checks.{none, pass, stop, first-is}
+use Rattle.calls.proofs.Change.{stop-first, pass-first, Good, change-good}
+use Rattle.named.specs.Named.{Passes, Places, Takes}
+
+-- edge memory that passes check 3, as the scan finds it
+scanned : (vertices : ℕ) (xs : List ℕ) {n : ℕ} → edgeMemory? vertices xs ≡ true → n ≡ length (standing xs) → scanOf vertices xs ≡ Edges n
+unfolding scanOf
+scanned vertices xs e q = rw (e, q)
+
+-- a refusal of the first checks is the call's
+module _ (h : Header) (from label to : ℕ) (m : Memory) where
+  pub insert-stops : (r : Refusal) → changeRefusal h from label to m ≡ numberOf r → insertRefusal h from label to m ≡ numberOf r
+  unfolding changeRefusal insertRefusal
+  insert-stops r e = stop-first (changeChecks h from label to m) _ e (number-some r)
+
+  pub remove-stops : (r : Refusal) → changeRefusal h from label to m ≡ numberOf r → removeRefusal h from label to m ≡ numberOf r
+  unfolding changeRefusal removeRefusal
+  remove-stops r e = stop-first (changeChecks h from label to m) _ e (number-some r)
+
+module _ {h : Header} {from label to : ℕ} {m : Memory} where
+  module _ {n : ℕ} (p : Passes h from label to m n) where
+    pub good : Good h from label to m
+    good = change-good h from label to m (p .is)
+
+    pub memory : Scans (h .vertices) (m .edges) n
+    memory = scans (h .vertices) (m .edges) (scanned (h .vertices) (m .edges) (good .memory) (p .count))
+
+    -- the edge has a number, and is looked up among rising ones
+    pub numbered : (from < 256) × ((label < 16) × (to < 256))
+    numbered = (omega (arith, good .from-vertex, good .header .vertices-most), (omega (arith, good .label-most), omega (arith, good .to-vertex, good .header .vertices-most)))
+
+    pub searchable : (n ≤ length (m .edges)) × Rising (take n (m .edges))
+    searchable = (memory .within, rw (memory .front) (memory .rising))
+
+    module _ {at : ℕ} where
+      found : findOf (edgeNumber from label to) (take n (m .edges)) ≡ At at → Stands (edgeNumber from label to) (standing (m .edges)) at
+      found e = stands (edgeNumber from label to) (standing (m .edges)) (rw (memory .front) at e)
+
+      missed : findOf (edgeNumber from label to) (take n (m .edges)) ≡ Before at → Lacks (edgeNumber from label to) (standing (m .edges)) at
+      missed e = lacks (edgeNumber from label to) (standing (m .edges)) (memory .rising) (rw (memory .front) at e)
+
+      in-true : findOf (edgeNumber from label to) (take n (m .edges)) ≡ At at → mem? (edgeNumber from label to) (standing (m .edges)) ≡ true
+      in-true e = test-true (test-mem _ (standing (m .edges))) (found e .member)
+
+      in-false : findOf (edgeNumber from label to) (take n (m .edges)) ≡ Before at → mem? (edgeNumber from label to) (standing (m .edges)) ≡ false
+      in-false e = test-false (test-mem _ (standing (m .edges))) (missed e .absent)
+
+      -- insertion: 7 where the edge stands, then 9 where all slots are taken
+      pub insert-present : findOf (edgeNumber from label to) (take n (m .edges)) ≡ At at → insertRefusal h from label to m ≡ 7
+      unfolding changeRefusal insertRefusal
+      insert-present e = pass-first (changeChecks h from label to m) _ tt (p .is) ∙ first-is (stop (ap not (in-true e)))
+
+      pub insert-full : findOf (edgeNumber from label to) (take n (m .edges)) ≡ Before at → length (m .edges) ≤ n → insertRefusal h from label to m ≡ 9
+      unfolding changeRefusal insertRefusal
+      insert-full e l =
+          pass-first (changeChecks h from label to m) _ tt (p .is)
+          ∙ first-is (pass (ap not (in-false e)) (stop (test-false (test-lt (length (standing (m .edges))) (length (m .edges))) (λ k. omega (arith, k, l, p .count)))))
+
+      pub places : findOf (edgeNumber from label to) (take n (m .edges)) ≡ Before at → n < length (m .edges) → Places h from label to m n at
+      unfolding changeRefusal insertRefusal
+      places e l =
+          record {
+            is =
+                pass-first (changeChecks h from label to m) _ tt (p .is)
+                ∙ first-is (pass (ap not (in-false e)) (pass (test-true (test-lt (length (standing (m .edges))) (length (m .edges))) (omega (arith, l, p .count))) none));
+            passes = p;
+            place = record { holds = memory .holds; place = missed e .place; room = l };
+          }
+
+      -- removal: 8 where the edge does not stand
+      pub remove-absent : findOf (edgeNumber from label to) (take n (m .edges)) ≡ Before at → removeRefusal h from label to m ≡ 8
+      unfolding changeRefusal removeRefusal
+      remove-absent e = pass-first (changeChecks h from label to m) _ tt (p .is) ∙ first-is (stop (in-false e))
+
+      pub takes : findOf (edgeNumber from label to) (take n (m .edges)) ≡ At at → Takes h from label to m n at
+      unfolding changeRefusal removeRefusal
+      takes e =
+          record {
+            is = pass-first (changeChecks h from label to m) _ tt (p .is) ∙ first-is (pass (in-true e) none);
+            passes = p;
+            place = record {
+              holds = memory .holds;
+              place = found e .place;
+              inside = omega (arith, found e .inside, p .count);
+              there =
+                  sym (getD-take n (m .edges) at 0 (omega (arith, found e .inside, p .count)))
+                  ∙ ap (λ (l : List ℕ). getD l at 0) (memory .front)
+                  ∙ found e .there;
+            };
+          }

@@ -1,0 +1,116 @@
+// The checks of an insertion (laying) and a removal (lifting): record, memory and the named edge, in document 01's order. They read only, and
+// find the slot of the named edge.
+use edges::Found;
+use edges::Scanned;
+use model::Answer;
+use model::Refusal;
+ghost use Rattle.named.specs.Named.{Changes, Inserts, Removes};
+
+// How many edges stand, or the refusal.
+enum Standing {
+    Edges(usize),
+    Refused(Refusal),
+}
+
+// How many edges stand and the slot of the named one, or the refusal.
+pub enum Slot {
+    At(usize, usize),
+    Refused(Refusal),
+}
+
+// The checks with which insertion and removal begin: 1 2 3 4 5 6.
+fn check_change(
+    vertices: u32,
+    longest: u32,
+    from: u32,
+    label: u32,
+    to: u32,
+    edges: &[u32],
+    index: &[u64],
+    work: &[u64],
+) -> Standing
+    ensures { λ r. ⌜
+        Changes (record { vertices = vertices; longest = longest }) from label to
+        (record { edges = now (edges .entry); index = now (index .entry); work = now (work .entry) }) r
+        ⌝ }
+{
+    let header = checks::check_header(vertices, longest);
+    if let Answer::Refused(refusal) = header {
+        return Standing::Refused(refusal);
+    }
+    let scanned = edges::scan(vertices, edges);
+    let Scanned::Edges(n) = scanned else {
+        return Standing::Refused(Refusal::EdgeMemory);
+    };
+    if checks::has_room(index.len(), work.len()) {
+        if checks::are_vertices(vertices, from, to) {
+            if checks::is_label(label) {
+                return Standing::Edges(n);
+            }
+            return Standing::Refused(Refusal::EdgeLabel);
+        }
+        return Standing::Refused(Refusal::EdgeEnd);
+    }
+    Standing::Refused(Refusal::WorkMemory)
+}
+
+// And then 7 9.
+pub fn check_insert(
+    vertices: u32,
+    longest: u32,
+    from: u32,
+    label: u32,
+    to: u32,
+    edges: &[u32],
+    index: &[u64],
+    work: &[u64],
+) -> Slot
+    ensures { λ r. ⌜
+        Inserts (record { vertices = vertices; longest = longest }) from label to
+        (record { edges = now (edges .entry); index = now (index .entry); work = now (work .entry) }) r
+        ⌝ }
+{
+    let standing = check_change(vertices, longest, from, label, to, edges, index, work);
+    match standing {
+        Standing::Refused(refusal) => Slot::Refused(refusal),
+        Standing::Edges(n) => {
+            let found = edges::find(edges, n, edges::edge_number(from, label, to));
+            let Found::Before(at) = found else {
+                return Slot::Refused(Refusal::EdgePresent);
+            };
+            if edges.len() <= n {
+                return Slot::Refused(Refusal::EdgeSlots);
+            }
+            Slot::At(n, at)
+        }
+    }
+}
+
+// And then 8.
+pub fn check_remove(
+    vertices: u32,
+    longest: u32,
+    from: u32,
+    label: u32,
+    to: u32,
+    edges: &[u32],
+    index: &[u64],
+    work: &[u64],
+) -> Slot
+    ensures { λ r. ⌜
+        Removes (record { vertices = vertices; longest = longest }) from label to
+        (record { edges = now (edges .entry); index = now (index .entry); work = now (work .entry) }) r
+        ⌝ }
+{
+    let standing = check_change(vertices, longest, from, label, to, edges, index, work);
+    match standing {
+        Standing::Refused(refusal) => Slot::Refused(refusal),
+        Standing::Edges(n) => {
+            let found = edges::find(edges, n, edges::edge_number(from, label, to));
+            let Found::At(at) = found else {
+                return Slot::Refused(Refusal::EdgeAbsent);
+            };
+            Slot::At(n, at)
+        }
+    }
+}
