@@ -3,3 +3,5 @@ pub mod Search
 pub mod Query
 pub mod Change
 pub mod Card
+pub mod Settling
+pub mod Passing

@@ -1,2 +1,11 @@
-pub mod Trials
 pub mod Index
+pub mod Trials
+pub mod Rising
+pub mod Numbers
+pub mod Steps
+pub mod Changes
+pub mod Openings
+pub mod CardReader
+pub mod Cards
+pub mod Demand3
+pub mod Demand1

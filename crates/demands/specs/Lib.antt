@@ -1,2 +1,7 @@
 pub mod Trials
 pub mod Index
+pub mod Ledger
+pub mod Station
+pub mod Demand3
+pub mod Demand1
+pub mod Demand2

@@ -1,0 +1,156 @@
+-- Card reading: the call on any station is the ledger's turn.
+use mathlib.Core.Path.{_≡_, refl, sym, ap, _∙_}
+use mathlib.Core.Bool.{Bool, true, false, not, _&&_, _||_}
+use mathlib.Core.List.{List, [], _∷_, _++_, map}
+use Prim.Native.Nat.{ℕ, _+_, _-_, _*_, _≤_, _<_}
+use native.Mathlib.Decide.{decLt}
+use native.Mathlib.Omega.{arith}
+use lib.Dec.{eqb, leb, ltb}
+use lib.ListN.{length, drop, length-drop}
+use Rattle.model.specs.Lists.{_∈_, any?, upTo, filled}
+use Rattle.model.specs.Limits.{mostEdges}
+use Rattle.model.specs.Entries.{determined}
+use Rattle.model.proofs.Tests.{test-true, test-false, test-yields, test-fails, test-and, test-eq, test-le, test-lt, test-T}
+use Rattle.calls.specs.Checks.{Check, firstRefusal}
+use Rattle.calls.specs.Change.{Header, Memory, graphOf, none, buildRoom?, fits?}
+use Rattle.calls.specs.Card.{Bytes, headBytes, marked?, headerOf, countOf, edgesOf, risingLegs?, legs?, cardChecks, readRefusal, readCall}
+use Rattle.calls.proofs.Checks.{test-longest}
+use Rattle.calls.proofs.Settling.{Result, settledChange, settled}
+use Rattle.calls.proofs.Passing.{passing}
+use Rattle.calls.proofs.Card.{marked-short, marked-at, legs-long, legs-body, legs-good, length-edges, card-vertices}
+use Rattle.demands.specs.Ledger.{Book, rising, bookEntries, narrow, full, byte, legCount, legAt, stray, falls, cardBook, cardNumber, nothing, turn}
+use Rattle.demands.specs.Station.{Station, read, memoryOf, fedBy}
+use Rattle.demands.proofs.Rising.{Legs, rising-is}
+use Rattle.demands.proofs.Numbers.{Gives, gives-none, chain, above-not, either-not, outside-not}
+use Rattle.demands.proofs.CardReader.{legs-agree, edges-agree}
+use Rattle.demands.proofs.Steps.{recordOf, stationOf, Fine, edge-slots, index-slots, Reaches, Matches, matches, begins}
+
+module _ (card : List ℕ) (bytes : Bytes card) (work : List ℕ) where
+  abbrev wanted : List ℕ
+  wanted = edgesOf (drop headBytes card)
+
+  abbrev n : ℕ
+  n = legCount card
+
+  -- "14 under 9 bytes or mark wrong"
+  fourteen : (ltb (length card) 9 || (not (eqb (byte card 0) 80) || (not (eqb (byte card 1) 82) || not (eqb (byte card 2) 67)))) ≡ not (marked? card)
+  fourteen =
+      elim (decLt (length card) 9) [
+        | yes h ↦ rw (marked-short card h, test-true (test-lt (length card) 9) h) refl
+        | no h ↦
+            rw (marked-at card (omega (arith, h)), test-false (test-lt (length card) 9) h, either-not (eqb (byte card 1) 82) (eqb (byte card 2) 67))
+            (either-not (eqb (byte card 0) 80) (eqb (byte card 1) 82 && eqb (byte card 2) 67))
+      ]
+
+  -- "16 length not 9 + 3 × legs, or legs not rising legs of this layout"
+  sixteen : (not (eqb (length card) (9 + 3 * n)) || (any? (stray card) (upTo n) || any? (falls card) (upTo (n - 1)))) ≡ not (legs? card)
+  sixteen = go (eqb (length card) (9 + 3 * n)) refl
+    where
+      go : (b : Bool) → eqb (length card) (9 + 3 * n) ≡ b
+          → (not (eqb (length card) (9 + 3 * n)) || (any? (stray card) (upTo n) || any? (falls card) (upTo (n - 1)))) ≡ not (legs? card)
+      go true e = let size = test-yields (test-eq (length card) (9 + 3 * n)) e in rw (e, legs-body card size) (legs-agree card size)
+      go false e = rw (e, legs-long card (test-fails (test-eq (length card) (9 + 3 * n)) e)) refl
+
+  -- what is known of a card whose own checks have passed
+  record Whole : Type 0 where
+    size : length card ≡ 9 + 3 * n
+    count : length wanted ≡ n
+    legs : map (legAt card) (upTo n) ≡ wanted
+    valid : Legs (headerOf card .vertices) wanted
+    rises : rising wanted ≡ wanted
+
+  whole : legs? card ≡ true → Whole
+  unfolding legs?
+  whole e =
+      let (a, b) = test-yields (test-and (test-eq (length card) (9 + 3 * n)) (test-T (risingLegs? (headerOf card .vertices) 0 (drop headBytes card)))) e in
+      let good = legs-good (headerOf card .vertices) 0 (drop headBytes card) (test-true (test-T (risingLegs? (headerOf card .vertices) 0 (drop headBytes card))) b) (card-vertices card bytes) in
+      let valid : Legs (headerOf card .vertices) wanted = λ x m. good .each x m .1 in
+      record {
+        size = a;
+        count = length-edges n (drop headBytes card) (length-drop headBytes card ∙ (omega (arith, a)));
+        legs = sym (edges-agree card a);
+        valid = valid;
+        rises = rising-is wanted (card-vertices card bytes) valid (good .rising) (λ x m. m) (λ x m. m);
+      }
+
+  book-entries : Whole → bookEntries (cardBook card) ≡ determined (graphOf (headerOf card) wanted)
+  unfolding cardBook
+  book-entries w = rw (w .legs, w .rises) refl
+
+  module _ (s : Station) {slots room : ℕ} (wide : length (s .edges) ≡ slots) (long : length (s .index) ≡ room) where
+    abbrev m : Memory
+    m = memoryOf s work
+
+    abbrev readChecks : List Check
+    readChecks =
+        cardChecks card
+        ++ ((3, leb (length (m .edges)) mostEdges) ∷ (9, leb (countOf card) (length (m .edges))) ∷ (4, buildRoom? m) ∷ [])
+
+    abbrev allChecks : List Check
+    allChecks = readChecks ++ ((13, fits? (headerOf card) wanted m) ∷ [])
+
+    read-gives : Gives allChecks (cardNumber card (fedBy slots room (read card bytes work)))
+    unfolding cardNumber
+    read-gives =
+        chain fourteen (λ _.
+        chain refl (λ _.
+        chain (outside-not 1 4 (byte card 6)) (λ _.
+        chain sixteen (λ legs.
+        chain three (λ _.
+        chain nine (λ _.
+        chain four (λ _.
+        chain (thirteen (whole legs)) (λ _. gives-none))))))))
+      where
+        three : ltb 1024 slots ≡ not (leb (length (s .edges)) mostEdges)
+        three = rw wide (above-not slots mostEdges)
+
+        nine : ltb slots n ≡ not (leb (countOf card) (length (s .edges)))
+        nine = rw wide (above-not n slots)
+
+        four : narrow (fedBy slots room (read card bytes work)) ≡ not (buildRoom? m)
+        four = rw long (above-not (4096 + room) (length work))
+
+        thirteen : Whole → full (cardBook card) (fedBy slots room (read card bytes work)) ≡ not (fits? (headerOf card) wanted m)
+        thirteen w = rw (book-entries w, long) (above-not (length (determined (graphOf (headerOf card) wanted))) room)
+
+    read-reaches : firstRefusal allChecks ≡ 0 → Reaches slots room (settledChange (headerOf card) wanted m) (cardBook card)
+    unfolding cardBook
+    read-reaches e =
+        let (_, (_, (k, (legs, (few, (nine, (_, (held, _)))))))) = passing allChecks tt e in
+        let w = whole legs in
+        let (c, d) = test-yields (test-longest (headerOf card .longest)) k in
+        let space : n ≤ slots = rw wide at (test-yields (test-le (countOf card) (length (s .edges))) nine) in
+        let is : rising (map (legAt card) (upTo n)) ≡ wanted = rw (w .legs) (w .rises) in
+        record {
+          answer = refl;
+          handed = refl;
+          edges = rw (wide, is) refl;
+          index = rw (long, is) refl;
+          fine = record {
+            bounds = record { vertices-least = omega arith; vertices-most = card-vertices card bytes; longest-least = c; longest-most = d };
+            few = rw wide at (test-yields (test-le (length (s .edges)) mostEdges) few);
+            valid = rw (w .legs) (w .valid);
+            fits = rw is (omega (arith, w .count, space));
+            held = rw is (rw long at (test-yields (test-le (length (determined (graphOf (headerOf card) wanted))) (length (s .index))) held));
+          };
+        }
+
+    read-result : Result (readCall card m) none m (settledChange (headerOf card) wanted m) (firstRefusal allChecks)
+    unfolding readCall readRefusal
+    read-result = settled none (headerOf card) wanted m readChecks tt
+
+    pub read-begins : (b : Book) → cardNumber card (fedBy slots room (read card bytes work)) ≡ 0
+        → Matches slots room s (readCall card m) (turn b (fedBy slots room (read card bytes work)))
+    unfolding turn
+    read-begins b e =
+        let z : firstRefusal allChecks ≡ 0 = read-gives .is ∙ e in
+        rw (sym (read-gives .is)) (begins b (cardBook card) nothing read-result z (read-reaches z))
+
+  pub read-matches : {slots room : ℕ} {b : Book} → Fine slots room b
+      → Matches slots room (stationOf slots room b) (readCall card (memoryOf (stationOf slots room b) work)) (turn b (fedBy slots room (read card bytes work)))
+  unfolding turn
+  read-matches {slots} {room} {b} f =
+      let s = stationOf slots room b in
+      rw (sym (read-gives s (edge-slots f) (index-slots f) .is))
+      (matches b (cardBook card) (firstRefusal (allChecks s (edge-slots f) (index-slots f))) none (read-result s (edge-slots f) (index-slots f)) f
+      (read-reaches s (edge-slots f) (index-slots f)))

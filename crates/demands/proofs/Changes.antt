@@ -1,0 +1,238 @@
+-- Laying and lifting: the calls on the station are the ledger's turns.
+use mathlib.Core.Path.{_≡_, refl, sym, ap, ap₂, _∙_}
+use mathlib.Core.Logic.{_⊎_, inl, inr, ⊎-elim, _≢_}
+use mathlib.Core.Bool.{Bool, true, false, not, _&&_, _||_}
+use mathlib.Core.List.{List, [], _∷_, _++_, List·Memᴰ·head, List·Memᴰ·tail, List·Memᴰ·cases-cons}
+use Prim.Native.Nat.{ℕ, zero, suc, _+_, _*_, _≤_, _<_}
+use native.Mathlib.Omega.{arith}
+use lib.Dec.{T, eqb, leb, ltb}
+use lib.ListN.{length}
+use Rattle.model.specs.Lists.{_∈_, keep, mem?, Rising, filled}
+use Rattle.model.specs.Limits.{mostEdges}
+use Rattle.model.specs.Edges.{edgeNumber, edge?, label?, edgeMemory?, standing, insertEdge, removeEdge}
+use Rattle.model.specs.Entries.{determined}
+use Rattle.model.proofs.Tests.{Tests, test-true, test-false, test-yields, test-fails, test-map, test-not, test-and, test-eq, test-le, test-lt, test-mem}
+use Rattle.model.proofs.Lists.{keep-in, keep-out}
+use Rattle.model.proofs.Edges.{edge-fields, test-edge}
+use Rattle.model.proofs.Memory.{edge-least, standing-filled, filled-memory}
+use Rattle.calls.specs.Checks.{ends?, Check, firstRefusal}
+use Rattle.calls.specs.Change.{Header, Memory, back, graphOf, changeChecks, fits?, insertCall, insertRefusal, removeCall, removeRefusal}
+use Rattle.calls.proofs.Checks.{test-ends, Header as Bounds}
+use Rattle.calls.proofs.Settling.{settledChange, settled}
+use Rattle.calls.proofs.Passing.{passing}
+use Rattle.edges.proofs.Memory.{length-insert, member-insert, rising-insert, length-remove, member-remove, rising-remove}
+use Rattle.demands.specs.Ledger.{Book, Fed, laying, lifting, rising, bookEntries, narrow, full, namedNumber, laid, layingNumber, lifted, liftingNumber, turn}
+use Rattle.demands.specs.Station.{Call, insert, remove, memoryOf, change, fedBy}
+use Rattle.demands.proofs.Rising.{Legs, leg-below, rising-rises, rising-in, rising-out, rising-is}
+use Rattle.demands.proofs.Numbers.{Gives, gives-none, chain, test-agree, above-not, from-not, either-not, not-not, outside-not}
+use Rattle.demands.proofs.Steps.{recordOf, stationOf, Fine, edge-slots, index-slots, Reaches, Matches, matches}
+
+module _ {slots room : ℕ} {b : Book} (f : Fine slots room b) (from label to : ℕ) (work : List ℕ) where
+  abbrev x : ℕ
+  x = edgeNumber from label to
+
+  abbrev L : List ℕ
+  L = rising (b .legs)
+
+  abbrev m : Memory
+  m = memoryOf (stationOf slots room b) work
+
+  small : b .vertices ≤ 256
+  small = f .bounds .vertices-most
+
+  listed : Legs (b .vertices) L
+  listed z k = f .valid z (rising-out (b .legs) k)
+
+  stands : standing (filled slots L) ≡ L
+  stands = standing-filled slots L (λ z k. omega (arith, edge-least (b .vertices) z (listed z k)))
+
+  -- what is known of the named edge where its checks have passed
+  record IsLeg : Type 0 where
+    valid : edge? (b .vertices) x ≡ true
+    below : x < 256 * 4096
+
+  is-leg : ends? (b .vertices) from to ≡ true → label? label ≡ true → IsLeg
+  is-leg e k =
+      let (p, q) = test-yields (test-ends (b .vertices) from to) e in
+      let (u, v) = test-yields (test-and (test-le 1 label) (test-le label 8)) k in
+      let (i, j, l) = edge-fields from label to (omega (arith, v)) (omega (arith, q, small)) in
+      let valid = test-true (test-edge (b .vertices) x) (record { from = rw i p; label-low = rw j u; label-high = rw j v; to = rw l q }) in
+      record { valid = valid; below = leg-below small valid }
+
+  -- "1 2 3 4 5 6", then what is left
+  named : (fed : Fed) → fed .edgeSlots ≡ slots → fed .indexSlots ≡ room → fed .workSlots ≡ length work → (later : List Check) {later′ : ℕ}
+      → (IsLeg → Gives later later′) → Gives (changeChecks (recordOf b) from label to m ++ later) (namedNumber b from label to fed later′)
+  unfolding namedNumber
+  named fed e i w later g =
+      chain (outside-not 1 256 (b .vertices)) (λ _.
+      chain (outside-not 1 4 (b .longest)) (λ _.
+      chain three (λ _.
+      chain four (λ _.
+      chain five (λ ends.
+      chain (outside-not 1 8 label) (λ colour. g (is-leg ends colour)))))))
+    where
+      three : ltb 1024 (fed .edgeSlots) ≡ not (edgeMemory? (b .vertices) (filled slots L))
+      three =
+          rw (e, filled-memory (b .vertices) slots L (f .fits) (f .few) (rising-rises (b .legs)) listed)
+          (test-false (test-lt 1024 slots) (λ h. omega (arith, h, f .few)))
+
+      four : narrow fed ≡ not (leb (4096 + length (filled room (bookEntries b))) (length work))
+      four = rw (i, w, index-slots f) (above-not (4096 + room) (length work))
+
+      five : leb (b .vertices) from || leb (b .vertices) to ≡ not (ends? (b .vertices) from to)
+      five = rw (from-not from (b .vertices), from-not to (b .vertices)) (either-not (ltb from (b .vertices)) (ltb to (b .vertices)))
+
+  -- the named edge stands where the ledger has it
+  known : IsLeg → mem? x (standing (filled slots L)) ≡ mem? x (b .legs)
+  known q = rw stands (test-agree (test-mem x L) (test-map (λ k. rising-in (b .legs) (q .below) k) (λ k. rising-out (b .legs) k) (test-mem x (b .legs))))
+
+  -- the wanted edges as the ledger has them, and as edge memory gets them
+  abbrev grown : List ℕ
+  grown = insertEdge x (standing (filled slots L))
+
+  abbrev less : List ℕ
+  less = removeEdge x (standing (filled slots L))
+
+  -- ---- laying
+
+  module _ (q : IsLeg) (new : mem? x (b .legs) ≡ false) where
+    absent : ¬ (x ∈ L)
+    absent k = test-fails (test-mem x (b .legs)) new (rising-out (b .legs) k)
+
+    grown-in : {z : ℕ} → z ∈ grown → (z ≡ x) ⊎ (z ∈ L)
+    grown-in {z} k = member-insert x L z .0 (rw stands at k)
+
+    grown-legs : Legs (b .vertices) (x ∷ b .legs)
+    grown-legs z k = ⊎-elim (λ e. rw e (q .valid)) (f .valid z) (List·Memᴰ·cases-cons k)
+
+    laid-is : rising (x ∷ b .legs) ≡ grown
+    laid-is =
+        rw stands (rising-is (x ∷ b .legs) small
+        (λ z k. ⊎-elim (λ e. rw e (q .valid)) (listed z) (member-insert x L z .0 k))
+        (rising-insert x L (rising-rises (b .legs)) absent)
+        (λ z k. ⊎-elim (λ e. List·Memᴰ·head e) (λ j. List·Memᴰ·tail (rising-out (b .legs) j)) (member-insert x L z .0 k))
+        (λ z k. member-insert x L z .1 (⊎-elim inl (λ j. inr (rising-in (b .legs) (leg-below small (f .valid z j)) j)) (List·Memᴰ·cases-cons k))))
+
+    laid-length : length (rising (x ∷ b .legs)) ≡ suc (length L)
+    laid-length = rw (laid-is, stands) (length-insert x L)
+
+  fresh : IsLeg → not (mem? x (standing (filled slots L))) ≡ true → mem? x (b .legs) ≡ false
+  fresh q e = test-false (test-mem x (b .legs)) (λ k. test-yields (test-not (test-mem x (b .legs))) (rw (known q) at e) k)
+
+  abbrev layChecks : List Check
+  layChecks =
+      changeChecks (recordOf b) from label to m
+      ++ ((7, not (mem? x (standing (m .edges)))) ∷ (9, ltb (length (standing (m .edges))) (length (m .edges))) ∷ [])
+
+  lay-gives : Gives (layChecks ++ ((13, fits? (recordOf b) grown m) ∷ []))
+      (layingNumber b from label to (fedBy slots room (insert from label to work)))
+  unfolding layingNumber laid
+  lay-gives =
+      named (fedBy slots room (insert from label to work)) refl refl refl _ (λ q.
+      chain (seven q) (λ new.
+      let gone = fresh q new in
+      chain (nine q gone) (λ _.
+      chain (thirteen q gone) (λ _. gives-none))))
+    where
+      seven : IsLeg → mem? x (b .legs) ≡ not (not (mem? x (standing (filled slots L))))
+      seven q = rw (known q) (not-not (mem? x (b .legs)))
+
+      nine : (q : IsLeg) → mem? x (b .legs) ≡ false → ltb slots (length (rising (x ∷ b .legs))) ≡ not (ltb (length (standing (filled slots L))) (length (filled slots L)))
+      nine q e =
+          rw (laid-length q e, stands, edge-slots f)
+          (test-agree (test-lt slots (suc (length L))) (test-map (λ h. omega (arith, h)) (λ h k. omega (arith, h, k)) (test-not (test-lt (length L) slots))))
+
+      thirteen : (q : IsLeg) → mem? x (b .legs) ≡ false → full (laid b x) (fedBy slots room (insert from label to work)) ≡ not (fits? (recordOf b) grown m)
+      thirteen q e = rw (laid-is q e, index-slots f) (above-not (length (determined (graphOf (recordOf b) grown))) room)
+
+  lay-reaches : firstRefusal (layChecks ++ ((13, fits? (recordOf b) grown m) ∷ [])) ≡ 0 → Reaches slots room (settledChange (recordOf b) grown m) (laid b x)
+  unfolding laid
+  lay-reaches e =
+      let p = passing (layChecks ++ ((13, fits? (recordOf b) grown m) ∷ [])) tt e .1 .1 .1 .1 in
+      let (ends, (colour, (new, (nine, (held, _))))) = p in
+      let q = is-leg ends colour in
+      let gone = fresh q new in
+      let is = laid-is q gone in
+      let space : length L < slots = rw (stands, edge-slots f) at (test-yields (test-lt (length (standing (filled slots L))) (length (filled slots L))) nine) in
+      record {
+        answer = refl;
+        handed = refl;
+        edges = rw (edge-slots f, is) refl;
+        index = rw (index-slots f, is) refl;
+        fine = record {
+          bounds = f .bounds;
+          few = f .few;
+          valid = grown-legs q gone;
+          fits = omega (arith, laid-length q gone, space);
+          held = rw is (rw (index-slots f) at (test-yields (test-le (length (determined (graphOf (recordOf b) grown))) (length (filled room (bookEntries b)))) held));
+        };
+      }
+
+  pub lay-matches : Matches slots room (stationOf slots room b) (insertCall (recordOf b) from label to m) (turn b (fedBy slots room (insert from label to work)))
+  unfolding insertCall insertRefusal turn
+  lay-matches =
+      let r = settled (back (recordOf b)) (recordOf b) grown m layChecks tt in
+      rw (sym (lay-gives .is))
+      (matches b (laid b x) (firstRefusal (layChecks ++ ((13, fits? (recordOf b) grown m) ∷ []))) (back (recordOf b)) r f lay-reaches)
+
+  -- ---- lifting
+
+  abbrev others : ℕ → Bool
+  others z = not (eqb z x)
+
+  test-others : (z : ℕ) → Tests (others z) (z ≢ x)
+  test-others z = test-not (test-eq z x)
+
+  lifted-is : rising (keep others (b .legs)) ≡ less
+  lifted-is =
+      rw stands (rising-is (keep others (b .legs)) small
+      (λ z k. listed z (member-remove x L (rising-rises (b .legs)) z .0 k .0))
+      (rising-remove x L (rising-rises (b .legs)))
+      (λ z k. let (a, d) = member-remove x L (rising-rises (b .legs)) z .0 k in keep-in others (rising-out (b .legs) a) ((test-others z) .passes d))
+      (λ z k. let (a, d) = keep-out others (b .legs) k in
+      member-remove x L (rising-rises (b .legs)) z .1 (rising-in (b .legs) (leg-below small (f .valid z a)) a, (test-others z) .yields d)))
+
+  abbrev liftChecks : List Check
+  liftChecks = changeChecks (recordOf b) from label to m ++ ((8, mem? x (standing (m .edges))) ∷ [])
+
+  lift-gives : Gives (liftChecks ++ ((13, fits? (recordOf b) less m) ∷ [])) (liftingNumber b from label to (fedBy slots room (remove from label to work)))
+  unfolding liftingNumber lifted
+  lift-gives =
+      named (fedBy slots room (remove from label to work)) refl refl refl _ (λ q.
+      chain (eight q) (λ _.
+      chain thirteen (λ _. gives-none)))
+    where
+      eight : IsLeg → not (mem? x (b .legs)) ≡ not (mem? x (standing (filled slots L)))
+      eight q = rw (known q) refl
+
+      thirteen : full (lifted b x) (fedBy slots room (remove from label to work)) ≡ not (fits? (recordOf b) less m)
+      thirteen = rw (lifted-is, index-slots f) (above-not (length (determined (graphOf (recordOf b) less))) room)
+
+  lift-reaches : firstRefusal (liftChecks ++ ((13, fits? (recordOf b) less m) ∷ [])) ≡ 0 → Reaches slots room (settledChange (recordOf b) less m) (lifted b x)
+  unfolding lifted
+  lift-reaches e =
+      let p = passing (liftChecks ++ ((13, fits? (recordOf b) less m) ∷ [])) tt e .1 .1 .1 .1 in
+      let (ends, (colour, (there, (held, _)))) = p in
+      let q = is-leg ends colour in
+      let here : x ∈ L = rw stands at (test-yields (test-mem x (standing (filled slots L))) there) in
+      let size : length (rising (keep others (b .legs))) < length L = rw (lifted-is, stands) (omega (arith, length-remove x L here)) in
+      record {
+        answer = refl;
+        handed = refl;
+        edges = rw (edge-slots f, lifted-is) refl;
+        index = rw (index-slots f, lifted-is) refl;
+        fine = record {
+          bounds = f .bounds;
+          few = f .few;
+          valid = λ z k. f .valid z (keep-out others (b .legs) k .0);
+          fits = omega (arith, size, f .fits);
+          held = rw lifted-is (rw (index-slots f) at (test-yields (test-le (length (determined (graphOf (recordOf b) less))) (length (filled room (bookEntries b)))) held));
+        };
+      }
+
+  pub lift-matches : Matches slots room (stationOf slots room b) (removeCall (recordOf b) from label to m) (turn b (fedBy slots room (remove from label to work)))
+  unfolding removeCall removeRefusal turn
+  lift-matches =
+      let r = settled (back (recordOf b)) (recordOf b) less m liftChecks tt in
+      rw (sym (lift-gives .is))
+      (matches b (lifted b x) (firstRefusal (liftChecks ++ ((13, fits? (recordOf b) less m) ∷ []))) (back (recordOf b)) r f lift-reaches)

@@ -1,0 +1,105 @@
+-- Demand 3 holds.
+use mathlib.Core.Path.{_≡_, refl, sym, ap, ap₂, _∙_}
+use mathlib.Core.Bool.{Bool, true, false}
+use mathlib.Core.List.{List, [], _∷_, map}
+use Prim.Native.Nat.{ℕ, _≤_, _<_}
+use lib.Dec.{T}
+use lib.ListN.{length}
+use Rattle.model.specs.Lists.{_∈_, keep, filled}
+use Rattle.model.specs.Edges.{Graph, Small}
+use Rattle.model.specs.Patterns.{keyed?, minRepeat}
+use Rattle.model.specs.Order.{counted}
+use Rattle.model.specs.Entries.{determined, entries}
+use Rattle.model.specs.Query.{indexMemory?, answers?, No}
+use Rattle.model.proofs.Tests.{test-true}
+use Rattle.model.proofs.Patterns.{test-keyed}
+use Rattle.model.proofs.Order.{counted-names}
+use Rattle.calls.specs.Checks.{firstRefusal}
+use Rattle.calls.specs.Query.{saying, queryRefusal, queryCall}
+use Rattle.calls.proofs.Checks.{First, none, pass, first-is, test-vertices, test-longest, test-ends}
+use Rattle.calls.proofs.Query.{query-accepted}
+use Rattle.demands.specs.Index.{Turned}
+use Rattle.demands.specs.Ledger.{Book, bookEntries, numberFor, turn, Reply, ledger}
+use Rattle.demands.specs.Station.{Call, opens, insert, remove, read, Station, change, replyOf, run, givenBy, fedBy, fedAll}
+use Rattle.demands.specs.Demand3.{blank, Begins, by-opening, by-card, standingGraph, Missed, Demand3, Demand3Holds}
+use Rattle.demands.proofs.Index.{struck-answer}
+use Rattle.demands.proofs.Steps.{stationOf, Fine, Matches}
+use Rattle.demands.proofs.Changes.{lay-matches, lift-matches}
+use Rattle.demands.proofs.Openings.{open-begins, open-matches}
+use Rattle.demands.proofs.Cards.{read-begins, read-matches}
+
+-- ---- one call after another
+
+module _ (slots room : ℕ) where
+  step : {b : Book} → Fine slots room b → (c : Call) → Matches slots room (stationOf slots room b) (change (stationOf slots room b) c) (turn b (fedBy slots room c))
+  step f (opens h) = open-matches h f
+  step f (insert from label to work) = lay-matches f from label to work
+  step f (remove from label to work) = lift-matches f from label to work
+  step f (read card bytes work) = read-matches card bytes work f
+
+  -- the station's run and the ledger's account
+  pub record Agrees (s : Station) (b : Book) (calls : List Call) : Type 0 where
+    pub replies : run s calls .replies ≡ ledger b (map (fedBy slots room) calls) .replies
+    pub station : run s calls .station ≡ stationOf slots room (ledger b (map (fedBy slots room) calls) .book)
+    pub fine : Fine slots room (ledger b (map (fedBy slots room) calls) .book)
+
+  -- a call that matches, and a list that agrees from there on
+  after-first : {s : Station} {b : Book} (c : Call) {more : List Call} → Matches slots room s (change s c) (turn b (fedBy slots room c))
+      → Agrees (stationOf slots room (turn b (fedBy slots room c) .book)) (turn b (fedBy slots room c) .book) more → Agrees s b (c ∷ more)
+  unfolding run ledger
+  after-first c {more} m a =
+      record {
+        replies = ap₂ (λ (x : Reply) (l : List Reply). x ∷ l) (m .reply) (ap (λ (t : Station). run t more .replies) (m .next) ∙ a .replies);
+        station = ap (λ (t : Station). run t more .station) (m .next) ∙ a .station;
+        fine = a .fine;
+      }
+
+  agrees : (calls : List Call) {b : Book} → Fine slots room b → Agrees (stationOf slots room b) b calls
+  agrees [] f = unfold run ledger in record { replies = refl; station = refl; fine = f }
+  agrees (c ∷ more) f = let m = step f c in after-first c m (agrees more (m .fine))
+
+-- an accepted opening or card reading, whatever the station holds
+begun : (s : Station) (c : Call) → Begins (givenBy c) → numberFor blank (givenBy c) (fedBy (length (s .edges)) (length (s .index)) c) ≡ 0 → Matches (length (s .edges)) (length (s .index)) s (change s c) (turn blank (fedBy (length (s .edges)) (length (s .index)) c))
+begun s (opens h) _ e = open-begins h s refl refl blank e
+begun s (read card bytes work) _ e = read-begins card bytes work s refl refl blank e
+
+-- ---- no entry can be spared
+
+module _ {slots room : ℕ} {b : Book} (f : Fine slots room b) where
+  small : Small (standingGraph b)
+  small = record { vertices-small = f .bounds .vertices-most; longest-small = f .bounds .longest-most }
+
+  missed : (keeps : ℕ → Bool) (e : ℕ) → e ∈ bookEntries b → ¬ T (keeps e)
+      → Missed (stationOf slots room b .header) b (filled room (keep keeps (bookEntries b)))
+  unfolding determined
+  missed keeps e m gone =
+      let t = struck-answer (standingGraph b) (counted (standingGraph b)) small room (counted-names (standingGraph b)) keeps e m gone in
+      record {
+        start = t .start;
+        destination = t .destination;
+        pattern = t .pattern;
+        own = t .asked .pattern;
+        runs = t .runs;
+        answered = sym (query-accepted (b .vertices) (b .longest) (t .start) (t .destination) (t .pattern) _ false (passes t) (sym (t .no-after)));
+      }
+    where
+      passes : {whole struck : List ℕ} (t : Turned (standingGraph b) whole struck) → queryRefusal (b .vertices) (b .longest) (t .start) (t .destination) (t .pattern) struck ≡ 0
+      passes t =
+          unfold queryRefusal in
+          first-is (pass (test-true (test-vertices (b .vertices)) (f .bounds .vertices-least, f .bounds .vertices-most))
+          (pass (test-true (test-longest (b .longest)) (f .bounds .longest-least, f .bounds .longest-most))
+          (pass (test-true (test-ends (b .vertices) (t .start) (t .destination)) (t .asked .from, t .asked .to))
+          (pass (test-true (test-keyed (b .longest) (t .pattern)) (t .asked .pattern .keyed)) (pass (t .passes) none)))))
+
+pub demand3 : Demand3Holds
+demand3 s first more begins e =
+    let m = begun s first begins e in
+    let a = after-first (length (s .edges)) (length (s .index)) first m (agrees (length (s .edges)) (length (s .index)) more (m .fine)) in
+    record {
+      account = ledger blank (fedAll s (first ∷ more));
+      is = refl;
+      replies = a .replies;
+      edges = ap (λ (t : Station). t .edges) (a .station);
+      index = ap (λ (t : Station). t .index) (a .station);
+      needed = rw (a .station) (missed (a .fine));
+    }

@@ -1,0 +1,124 @@
+-- Opening: the call on any station is the ledger's turn. No edges determine no entries.
+use mathlib.Core.Path.{_≡_, refl, sym, ap, _∙_}
+use mathlib.Core.Bool.{not, true}
+use mathlib.Core.List.{List, [], _∷_, List·Memᴰ·head, List·Memᴰ·not-nil}
+use Prim.Native.Nat.{ℕ, _-_, _≤_, _<_}
+use native.Mathlib.Omega.{arith}
+use lib.Dec.{leb, ltb}
+use lib.ListN.{length, replicate}
+use Rattle.model.specs.Lists.{_∈_, zeroed, filled}
+use Rattle.model.specs.Limits.{mostEdges}
+use Rattle.model.specs.Edges.{Graph, Small}
+use Rattle.model.specs.Walks.{Spells, edge, Runs, once, more}
+use Rattle.model.specs.Order.{counted}
+use Rattle.model.specs.Entries.{IsEntry, determined, entries}
+use Rattle.model.proofs.Tests.{test-yields, test-le}
+use Rattle.model.proofs.Entries.{entries-out}
+use Rattle.calls.specs.Checks.{Check, vertices?, longest?, firstRefusal}
+use Rattle.calls.specs.Change.{Header, Memory, back, Change, openRefusal, openCall}
+use Rattle.calls.proofs.Checks.{test-vertices, test-longest}
+use Rattle.calls.proofs.Settling.{Result, with-number}
+use Rattle.calls.proofs.Passing.{passing}
+use Rattle.demands.specs.Ledger.{Book, rising, bookEntries, shows, openingNumber, turn}
+use Rattle.demands.specs.Station.{Station, opens, memoryOf, fedBy}
+use Rattle.demands.proofs.Rising.{rising-out, rising-is}
+use Rattle.demands.proofs.Numbers.{Gives, gives-none, chain, above-not, outside-not}
+use Rattle.demands.proofs.Steps.{recordOf, stationOf, Fine, edge-slots, index-slots, Reaches, Matches, matches, begins}
+
+-- ---- no edges, no entries
+
+empty-is : (l : List ℕ) → ((x : ℕ) → x ∈ l → ⊥) → l ≡ []
+empty-is [] f = refl
+empty-is (x ∷ l) f = absurd (f x (List·Memᴰ·head refl))
+
+module _ (g : Graph) (bare : g .edges ≡ []) where
+  no-word : {s t : ℕ} {l : List ℕ} → 1 ≤ length l → Spells g s l t → ⊥
+  no-word {l = []} h p = absurd (omega arith)
+  no-word {l = c ∷ l} h (edge e p) = List·Memᴰ·not-nil (rw bare at (e .stands))
+
+  no-run : {s t : ℕ} {l : List ℕ} → 1 ≤ length l → Runs g l s t → ⊥
+  no-run h (once p) = no-word h p
+  no-run h (more p r) = no-word h p
+
+  no-entry : {order : List ℕ} {x : ℕ} → IsEntry g order x → ⊥
+  no-entry (IsEntry.out s t l q a e) = no-run (q .pattern .keyed .long) (a .stop .walk)
+  no-entry (IsEntry.into s t l q a d e) = no-run (q .pattern .keyed .long) (a .stop .walk)
+
+  pub no-entries : Small g → determined g ≡ []
+  unfolding determined
+  no-entries small = empty-is (determined g) (λ x m. no-entry (entries-out g (counted g) small m))
+
+blank-filled : (m : ℕ) → replicate m 0 ≡ filled m []
+blank-filled m = let e : m ≡ m - 0 = omega arith in ap (λ (k : ℕ). replicate k 0) e
+
+pub rising-none : rising [] ≡ []
+rising-none = empty-is (rising []) (λ x m. List·Memᴰ·not-nil (rising-out [] m))
+
+-- ---- the opening
+
+module _ (h : Header) where
+  abbrev fresh : Book
+  fresh = record { vertices = h .vertices; longest = h .longest; legs = [] }
+
+  abbrev done : Station → Change
+  done s =
+      record {
+        handed = back h;
+        answer = 0;
+        memory = record { edges = zeroed (s .edges); index = zeroed (s .index); work = [] };
+      }
+
+  module _ (s : Station) {slots room : ℕ} (wide : length (s .edges) ≡ slots) (long : length (s .index) ≡ room) where
+    abbrev openChecks : List Check
+    openChecks = (1, vertices? (h .vertices)) ∷ (2, longest? (h .longest)) ∷ (3, leb (length (s .edges)) mostEdges) ∷ []
+
+    open-gives : Gives openChecks (openingNumber (h .vertices) (h .longest) (fedBy slots room (opens h)))
+    unfolding openingNumber
+    open-gives =
+        chain (outside-not 1 256 (h .vertices)) (λ _.
+        chain (outside-not 1 4 (h .longest)) (λ _.
+        chain three (λ _. gives-none)))
+      where
+        three : ltb 1024 slots ≡ not (leb (length (s .edges)) mostEdges)
+        three = rw wide (above-not slots mostEdges)
+
+    open-reaches : firstRefusal openChecks ≡ 0 → Reaches slots room (done s) fresh
+    open-reaches e =
+        let (v, (k, (few, _))) = passing openChecks tt e in
+        let (a, b) = test-yields (test-vertices (h .vertices)) v in
+        let (c, d) = test-yields (test-longest (h .longest)) k in
+        let empty : bookEntries fresh ≡ [] = no-entries (record { vertices = h .vertices; longest = h .longest; edges = rising [] }) rising-none
+        (record { vertices-small = b; longest-small = d }) in
+        record {
+          answer = refl;
+          handed = refl;
+          edges = rw (rising-none, wide) (blank-filled slots);
+          index = rw (empty, long) (blank-filled room);
+          fine = record {
+            bounds = record { vertices-least = a; vertices-most = b; longest-least = c; longest-most = d };
+            few = rw wide at (test-yields (test-le (length (s .edges)) mostEdges) few);
+            valid = λ x m. absurd (List·Memᴰ·not-nil m);
+            fits = rw rising-none (omega arith);
+            held = rw empty (omega arith);
+          };
+        }
+
+    open-result : Result (openCall h (memoryOf s [])) (back h) (memoryOf s []) (done s) (firstRefusal openChecks)
+    unfolding openCall openRefusal
+    open-result = with-number (firstRefusal openChecks) (back h) (memoryOf s []) (done s)
+
+    pub open-begins : (b : Book) → openingNumber (h .vertices) (h .longest) (fedBy slots room (opens h)) ≡ 0
+        → Matches slots room s (openCall h (memoryOf s [])) (turn b (fedBy slots room (opens h)))
+    unfolding turn
+    open-begins b e =
+        let z : firstRefusal openChecks ≡ 0 = open-gives .is ∙ e in
+        rw (sym (open-gives .is)) (begins b fresh (shows (h .vertices) (h .longest)) open-result z (open-reaches z))
+
+  pub open-matches : {slots room : ℕ} {b : Book} → Fine slots room b
+      → Matches slots room (stationOf slots room b) (openCall h (memoryOf (stationOf slots room b) [])) (turn b (fedBy slots room (opens h)))
+  unfolding turn
+  open-matches {slots} {room} {b} f =
+      let s = stationOf slots room b in
+      rw (sym (open-gives s (edge-slots f) (index-slots f) .is))
+      (matches b fresh (firstRefusal (openChecks s (edge-slots f) (index-slots f))) (back h) (open-result s (edge-slots f) (index-slots f)) f
+      (open-reaches s (edge-slots f) (index-slots f)))
