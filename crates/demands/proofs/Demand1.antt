@@ -111,11 +111,11 @@ searched-keeps (suc n) reply work f = (λ _ _. refl, λ d. absurd (d (suc n) ref
 -- ---- the card written
 
 -- 0 for a length
-abbrev kind : Wrote → ℕ
+abbrev pub kind : Wrote → ℕ
 kind (Length n) = 0
 kind (NotWritten n) = 1
 
-abbrev numberIn : Wrote → ℕ
+abbrev pub numberIn : Wrote → ℕ
 numberIn (Length n) = n
 numberIn (NotWritten n) = n
 

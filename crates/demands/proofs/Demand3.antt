@@ -66,7 +66,7 @@ begun s (read card bytes work) _ e = read-begins card bytes work s refl refl bla
 -- ---- no entry can be spared
 
 module _ {slots room : ℕ} {b : Book} (f : Fine slots room b) where
-  small : Small (standingGraph b)
+  pub small : Small (standingGraph b)
   small = record { vertices-small = f .bounds .vertices-most; longest-small = f .bounds .longest-most }
 
   missed : (keeps : ℕ → Bool) (e : ℕ) → e ∈ bookEntries b → ¬ T (keeps e)
@@ -91,10 +91,17 @@ module _ {slots room : ℕ} {b : Book} (f : Fine slots room b) where
           (pass (test-true (test-ends (b .vertices) (t .start) (t .destination)) (t .asked .from, t .asked .to))
           (pass (test-true (test-keyed (b .longest) (t .pattern)) (t .asked .pattern .keyed)) (pass (t .passes) none)))))
 
+-- every such list
+pub agreed : (s : Station) (first : Call) (more : List Call) → Begins (givenBy first)
+    → numberFor blank (givenBy first) (fedBy (length (s .edges)) (length (s .index)) first) ≡ 0
+    → Agrees (length (s .edges)) (length (s .index)) s blank (first ∷ more)
+agreed s first more begins e =
+    let m = begun s first begins e in
+    after-first (length (s .edges)) (length (s .index)) first m (agrees (length (s .edges)) (length (s .index)) more (m .fine))
+
 pub demand3 : Demand3Holds
 demand3 s first more begins e =
-    let m = begun s first begins e in
-    let a = after-first (length (s .edges)) (length (s .index)) first m (agrees (length (s .edges)) (length (s .index)) more (m .fine)) in
+    let a = agreed s first more begins e in
     record {
       account = ledger blank (fedAll s (first ∷ more));
       is = refl;

@@ -7,5 +7,6 @@ pub mod Changes
 pub mod Openings
 pub mod CardReader
 pub mod Cards
-pub mod Demand3
 pub mod Demand1
+pub mod Demand3
+pub mod Demand2
