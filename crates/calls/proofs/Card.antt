@@ -275,7 +275,8 @@ bytes-cons : {x : ℕ} {l : List ℕ} → x < 256 → Bytes l → Bytes (x ∷ l
 bytes-cons h f z m = ⊎-elim (λ e. omega (arith, e, h)) (λ k. f z k) (List·Memᴰ·cases-cons m)
 
 -- the bytes of edges are below 256
-bytes-edges : (vertices : ℕ) → vertices ≤ mostVertices → (edges : List ℕ) → ((x : ℕ) → x ∈ edges → edge? vertices x ≡ true) → Bytes (spread edgeBytes edges)
+bytes-edges : (vertices : ℕ) → vertices ≤ mostVertices → (edges : List ℕ)
+    → ((x : ℕ) → x ∈ edges → edge? vertices x ≡ true) → Bytes (spread edgeBytes edges)
 unfolding spread
 bytes-edges vertices few [] f = λ x m. absurd (List·Memᴰ·not-nil m)
 bytes-edges vertices few (x ∷ l) f =
@@ -327,7 +328,8 @@ card-says {h} {edges} c =
 -- ---- writing undoes reading
 
 -- legs that pass are the bytes of the edges that they name
-pub bytes-legs : (vertices prev : ℕ) (body : List ℕ) → risingLegs? vertices prev body ≡ true → vertices ≤ mostVertices → spread edgeBytes (edgesOf body) ≡ body
+pub bytes-legs : (vertices prev : ℕ) (body : List ℕ) → risingLegs? vertices prev body ≡ true → vertices ≤ mostVertices
+    → spread edgeBytes (edgesOf body) ≡ body
 unfolding edgesOf risingLegs? spread
 bytes-legs vertices prev [] e h = refl
 bytes-legs vertices prev (a ∷ []) e h = not-false e
@@ -339,7 +341,9 @@ bytes-legs vertices prev (a ∷ b ∷ c ∷ more) e h =
 
 -- the bytes of a head
 card-split : (card : List ℕ) → headBytes ≤ length card
-    → card ≡ getD card 0 0 ∷ getD card 1 0 ∷ getD card 2 0 ∷ getD card 3 0 ∷ getD card 4 0 ∷ getD card 5 0 ∷ getD card 6 0 ∷ getD card 7 0 ∷ getD card 8 0 ∷ drop headBytes card
+    → card ≡ getD card 0 0 ∷ getD card 1 0 ∷ getD card 2 0
+    ∷ getD card 3 0 ∷ getD card 4 0 ∷ getD card 5 0
+    ∷ getD card 6 0 ∷ getD card 7 0 ∷ getD card 8 0 ∷ drop headBytes card
 card-split card h =
     drop-three card 0 (omega arith)
     ∙ ap (λ (l : List ℕ). getD card 0 0 ∷ getD card 1 0 ∷ getD card 2 0 ∷ l) (drop-three card 3 (omega arith)

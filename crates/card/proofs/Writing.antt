@@ -18,20 +18,19 @@ use Rattle.edges.proofs.Copying.{save-start, save-end}
 use Rattle.card.specs.Card.{headOf, Legs, Writable}
 use Rattle.card.proofs.Filling.{part-last, part-all}
 
-module _ (edges out : List ℕ) where
-  abbrev pub bytes : List ℕ
-  bytes = spread edgeBytes edges
+abbrev pub bytes : List ℕ → List ℕ
+bytes edges = spread edgeBytes edges
 
-  -- the part of the output behind the head, once all legs are written
-  abbrev pub legsOver : List ℕ
-  legsOver = bytes ++ drop (length bytes) out
+-- the part of the output behind the head, once all legs are written
+abbrev pub legsOver : (edges out : List ℕ) → List ℕ
+legsOver edges out = bytes edges ++ drop (length (bytes edges)) out
 
 module _ {edges out : List ℕ} (p : Legs edges out) where
-  bytes-room : length (bytes edges out) ≤ length out
+  bytes-room : length (bytes edges) ≤ length out
   bytes-room = omega (arith, length-bytes edges, p .room)
 
   pub legs-start : Mixed (legsOver edges out) out out 0
-  legs-start = save-start (bytes edges out) out bytes-room
+  legs-start = save-start (bytes edges) out bytes-room
 
   pub leg-narrow : (i : ℕ) → i < length edges → fromOf (getD edges i 0) < 256
   leg-narrow i h = p .narrow (getD edges i 0) (getD-in edges i h)
@@ -49,16 +48,16 @@ module _ {edges out : List ℕ} (p : Legs edges out) where
         let b = rw one at (front-turn a (room a (3 * i + 1) (omega arith)) (sym (at (3 * i + 1) (omega arith) ∙ r .label))) in
         rw two at (front-turn b (room b (3 * i + 2) (omega arith)) (sym (at (3 * i + 2) (omega arith) ∙ r .to)))
       where
-        at : (k : ℕ) → k < 3 * length edges → getD (legsOver edges out) k 0 ≡ getD (bytes edges out) k 0
-        at k u = List·getD-append (bytes edges out) (drop (length (bytes edges out)) out) 0 k (omega (arith, length-bytes edges, u))
+        at : (k : ℕ) → k < 3 * length edges → getD (legsOver edges out) k 0 ≡ getD (bytes edges) k 0
+        at k u = List·getD-append (bytes edges) (drop (length (bytes edges)) out) 0 k (omega (arith, length-bytes edges, u))
 
         room : {l : List ℕ} {j : ℕ} → Mixed (legsOver edges out) out l j → (k : ℕ) → k < 3 * length edges → k < length l
         room n k u = omega (arith, n .size, p .room, u)
 
-    pub legs-end : length edges ≤ i → cur ≡ bytes edges out ++ drop (3 * length edges) out
+    pub legs-end : length edges ≤ i → cur ≡ bytes edges ++ drop (3 * length edges) out
     legs-end h =
-        save-end (bytes edges out) out bytes-room m (omega (arith, length-bytes edges, h))
-        ∙ ap (λ (k : ℕ). bytes edges out ++ drop k out) (length-bytes edges)
+        save-end (bytes edges) out bytes-room m (omega (arith, length-bytes edges, h))
+        ∙ ap (λ (k : ℕ). bytes edges ++ drop k out) (length-bytes edges)
 
 module _ {h : Header} {edges output : List ℕ} (p : Writable h edges output) where
   -- behind a head of nine bytes there is room for the legs

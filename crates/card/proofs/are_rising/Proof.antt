@@ -3,7 +3,7 @@ use mathlib.Core.Path.{_≡_, refl, sym, _∙_}
 use Prim.Native.Nat.{_-_, _%_, _+_, _≤_, _<_}
 use native.Mathlib.Omega.{arith}
 use lib.ListN.{length, drop}
-use Rattle.calls.specs.Card.{risingLegs?}
+use Rattle.calls.specs.Card.{legAt, risingLegs?}
 use Rattle.calls.proofs.Card.{legs-other, legs-low, legs-more, legs-done}
 use borrow.Author.Needs.{needs}
 use Rattle.card.proofs.are_rising.Statement.{statement}
@@ -33,9 +33,10 @@ returns c =
     let leg = c .before in
     let test = leg .before .before in
     let at = test .before .before in
-    let low = rw (leg .leg .ensures) at (c .if2 .taken) in
+    let start = at .before .before in
     let is = sym (test .is-leg .ensures) ∙ leg .before .if1 .taken in
-    sym (legs-low _ _ _ (at .loop .i) (whole test) is low) ∙ at .loop .inv .2
+    let low : legAt (start .args .body .now) (at .loop .i) ≤ at .loop .prev = omega (arith, rw (leg .leg .ensures) at (c .if2 .taken)) in
+    sym (legs-low (start .args .vertices) (at .loop .prev) (start .args .body .now) (at .loop .i) (whole test) is low) ∙ at .loop .inv .2
 
 add-i : tie.Need-add-i Inv-loop μ-loop
 add-i c = search needs
@@ -48,9 +49,11 @@ loop-again c =
     let leg = c .before in
     let test = leg .before .before in
     let at = test .before .before in
-    let above = rw (leg .leg .ensures) at (c .if2 .left) in
+    let start = at .before .before in
     let is = sym (test .is-leg .ensures) ∙ leg .before .if1 .taken in
-    (omega arith, omega arith, rw (leg .leg .ensures) (sym (legs-more _ _ _ (at .loop .i) (whole test) is above) ∙ at .loop .inv .2))
+    let above : at .loop .prev < legAt (start .args .body .now) (at .loop .i) = omega (arith, rw (leg .leg .ensures) at (c .if2 .left)) in
+    let more = legs-more (start .args .vertices) (at .loop .prev) (start .args .body .now) (at .loop .i) (whole test) is above in
+    (omega arith, omega arith, rw (leg .leg .ensures) (sym more ∙ at .loop .inv .2))
 
 returns-2 : tie.Need-returns-2 Inv-loop μ-loop
 returns-2 c =

@@ -1,6 +1,6 @@
 -- `card::fill` meets its contract. The invariant: the first i slots hold the first i legs, and the others are as they came.
 use mathlib.Core.List.{_++_}
-use Prim.Native.Nat.{_-_}
+use Prim.Native.Nat.{_-_, _≤_}
 use native.Mathlib.Omega.{arith}
 use lib.ListN.{length, drop}
 use Rattle.calls.specs.Card.{headBytes, edgesOf}
@@ -71,7 +71,9 @@ returns c =
     let done = c .before .before .before .before in
     let start = done .before .before .before .before in
     let p = start .pre in
-    let all = save-end (legs p) (start .args .edges .now) (omega (arith, legs-size p, p .room)) (done .before .loop .inv) (omega (arith, legs-size p, done .loop-test .left)) in
+    let room : length (legs p) ≤ length (start .args .edges .now) = omega (arith, legs-size p, p .room) in
+    let past : length (legs p) ≤ done .before .loop .i = omega (arith, legs-size p, done .loop-test .left) in
+    let all = save-end (legs p) (start .args .edges .now) room (done .before .loop .inv) past in
     zeros-behind (legs p) (start .args .edges .now) (start .args .n) (legs-size p) all (c .before .before .clear-edges .ensures)
 
 pub fill-spec : {M : Type 1} → statement M
