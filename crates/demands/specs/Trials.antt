@@ -1,7 +1,7 @@
 -- The starred trial runs of document 01 and layout A's slots, as one table of cases, put to the calls' definitions.
-use mathlib.Core.Bool.{Bool, true, false, not}
+use mathlib.Core.Bool.{Bool, true, false, not, _&&_}
 use mathlib.Core.List.{List, [], _∷_}
-use Prim.Native.Nat.{ℕ}
+use Prim.Native.Nat.{ℕ, _+_}
 use lib.Dec.{eqb}
 use lib.ListN.{length, replicate}
 use Rattle.model.specs.Lists.{same?}
@@ -13,6 +13,8 @@ use Rattle.model.specs.Entries.{determined}
 use Rattle.model.specs.Query.{Answered, Yes as AnsweredYes, No as AnsweredNo, Refused as AnsweredRefused}
 use Rattle.calls.specs.Search.{searchCall}
 use Rattle.calls.specs.Query.{queryCall}
+use Rattle.calls.specs.Change.{Memory, Change, removeCall}
+use Rattle.calls.specs.Card.{readCall}
 
 -- a layout as a call meets it: places, k and leg memory
 pub record Layout : Type 0 where
@@ -27,6 +29,10 @@ A = record { vertices = 3; longest = 2; edges = 257 ∷ 4354 ∷ 4608 ∷ [] }
 -- "The slots are": A's index memory, of five slots
 unfoldable pub slotsA : List ℕ
 slotsA = 18 ∷ 65537 ∷ 16842785 ∷ 4295032834 ∷ 4328587265 ∷ []
+
+-- "Card, in hexadecimal: 50 52 43 00 01 02 02 00 03 00 01 01 01 01 02 01 02 00"
+unfoldable pub cardA : List ℕ
+cardA = 80 ∷ 82 ∷ 67 ∷ 0 ∷ 1 ∷ 2 ∷ 2 ∷ 0 ∷ 3 ∷ 0 ∷ 1 ∷ 1 ∷ 1 ∷ 1 ∷ 2 ∷ 1 ∷ 2 ∷ 0 ∷ []
 
 -- "One place, k 1, leg 0-1-0"
 unfoldable pub loop : Layout
@@ -63,6 +69,10 @@ pub data Case : Type 0 where
   indexed : (y : Layout) (expected : List ℕ) → Case
   -- a layout, and how many entries it needs
   counts : (y : Layout) (expected : ℕ) → Case
+  -- a card read into so many leg slots and index slots, and the number and leg and index memory that it leaves
+  reads : (card : List ℕ) (slots room number : ℕ) (edges index : List ℕ) → Case
+  -- a leg lifted from a layout with so many index slots, and its number
+  lifts : (y : Layout) (room from label to number : ℕ) → Case
 
 unfoldable pub trials : List Case
 trials =
@@ -81,6 +91,10 @@ trials =
     ∷ indexed loop (1 ∷ [])
     ∷ counts B 7
     ∷ counts liftedB 8
+    ∷ reads cardA 3 5 0 (A .edges) slotsA
+    ∷ reads cardA 3 4 13 (0 ∷ 0 ∷ 0 ∷ []) (0 ∷ 0 ∷ 0 ∷ 0 ∷ [])
+    ∷ lifts B 7 0 2 4 13
+    ∷ lifts B 8 0 2 4 0
     ∷ indexed figure2 tableII
     ∷ []
 
@@ -113,6 +127,14 @@ sameAnswer? (AnsweredRefused n) expected = false
 unfoldable pub entriesOf : Layout → List ℕ
 entriesOf y = determined (record { vertices = y .vertices; longest = y .longest; edges = standing (y .edges) })
 
+-- leg, index and work memory: the legs given, so many index slots, and the least work memory that a build may have
+unfoldable pub lent : List ℕ → ℕ → Memory
+lent edges room = record { edges = edges; index = replicate room 0; work = replicate (leastWork + room) 0 }
+
+-- a change has that number, and leaves that leg and index memory
+unfoldable pub leaves? : Change → ℕ → List ℕ → List ℕ → Bool
+leaves? c number edges index = eqb (c .answer) number && (same? (c .memory .edges) edges && same? (c .memory .index) index)
+
 -- the definition gives what document 01 expects
 unfoldable pub holds? : Case → Bool
 holds? (repeats pattern expected) = same? (minRepeat pattern) expected
@@ -121,3 +143,6 @@ holds? (checks y s t pattern allowance expected) =
 holds? (asks y index s t pattern expected) = sameAnswer? (queryCall (y .vertices) (y .longest) s t pattern index) expected
 holds? (indexed y expected) = same? (entriesOf y) expected
 holds? (counts y expected) = eqb (length (entriesOf y)) expected
+holds? (reads card slots room number edges index) = leaves? (readCall card (lent (replicate slots 0) room)) number edges index
+holds? (lifts y room from label to number) =
+    eqb (removeCall (record { vertices = y .vertices; longest = y .longest }) from label to (lent (y .edges) room) .answer) number
