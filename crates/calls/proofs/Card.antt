@@ -19,7 +19,7 @@ use Rattle.model.proofs.Memory.{edge-least}
 use Rattle.calls.specs.Checks.{longest?}
 use Rattle.calls.specs.Change.{Header}
 use Rattle.calls.specs.Card.{Bytes, mark, wordAt, headBytes, edgeBytes, legAt, legAt?, cardOf, marked?, version?, headerOf, countOf, edgesOf, risingLegs?, legs?, cardChecks, cardRefusal}
-use Rattle.calls.proofs.Checks.{First, none as all-pass, pass, first-is, passed, test-ends, test-longest}
+use Rattle.calls.proofs.Checks.{First, none as all-pass, pass, first-is, Passed, done, also, passes, test-ends, test-longest}
 
 -- the first of two tests
 pub and-pass : {a b : Bool} → a ≡ true → (a && b) ≡ b
@@ -215,26 +215,26 @@ pub record CardGood (card : List ℕ) : Type 0 where
   pub legs : risingLegs? (headerOf card .vertices) 0 (drop headBytes card) ≡ true
   pub count : length (edgesOf (drop headBytes card)) ≡ countOf card
 
-pub card-good : (card : List ℕ) → cardRefusal card ≡ 0 → CardGood card
-unfolding cardRefusal legs?
-card-good card e =
-    let a = passed 14 (marked? card) ((15, version? card) ∷ (2, longest? (headerOf card .longest)) ∷ (16, legs? card) ∷ []) (omega arith) e in
-    let b = passed 15 (version? card) ((2, longest? (headerOf card .longest)) ∷ (16, legs? card) ∷ []) (omega arith) (a .after) in
-    let c = passed 2 (longest? (headerOf card .longest)) ((16, legs? card) ∷ []) (omega arith) (b .after) in
-    let d = passed 16 (legs? card) [] (omega arith) (c .after) in
-    let k = test-yields (test-longest (headerOf card .longest)) (c .here) in
+good : (card : List ℕ) → Passed (cardChecks card) → CardGood card
+unfolding legs?
+good card (also marked (also version (also longest (also legs done)))) =
+    let (k, l) = test-yields (test-longest (headerOf card .longest)) longest in
     let (w, r) = test-yields
     (test-and (test-eq (length card) (headBytes + 3 * countOf card)) (test-is (risingLegs? (headerOf card .vertices) 0 (drop headBytes card))))
-    (d .here) in
+    legs in
     record {
-      marked = a .here;
-      version = b .here;
-      longest-least = k .0;
-      longest-most = k .1;
+      marked = marked;
+      version = version;
+      longest-least = k;
+      longest-most = l;
       whole = w;
       legs = r;
       count = length-edges (countOf card) (drop headBytes card) (length-drop headBytes card ∙ omega (arith, w));
     }
+
+pub card-good : (card : List ℕ) → cardRefusal card ≡ 0 → CardGood card
+unfolding cardRefusal
+card-good card e = good card (passes (cardChecks card) tt e)
 
 pub byte-at : (card : List ℕ) → Bytes card → (i : ℕ) → getD card i 0 < 256
 byte-at [] f i = omega arith

@@ -3,6 +3,7 @@ use mathlib.Core.Path.{_≡_, refl, sym, ap, _∙_}
 use mathlib.Core.Bool.{Bool, true, false}
 use mathlib.Core.List.{List, [], _∷_, _++_}
 use Prim.Native.Nat.{ℕ, zero, suc, _+_, _≤_, _<_}
+use native.Mathlib.Decide.{decLt}
 use native.Mathlib.Omega.{arith}
 use lib.Dec.{T, leb}
 use lib.ListN.{length}
@@ -18,28 +19,10 @@ use Rattle.model.specs.declared.Refusal.the-variants.{IndexSlots}
 use Rattle.model.proofs.Tests.{test-and, test-le, test-true, test-false, test-yields}
 use Rattle.model.proofs.Replies.{number-some}
 use Rattle.calls.specs.Checks.{vertices?, longest?, ends?, Check, firstRefusal}
-use Rattle.calls.specs.Change.{Header, graphOf, Memory, Handed, back, Change, changedWith, buildRoom?, Leaves, fits?, settle, changeChecks, changeRefusal}
-use Rattle.calls.proofs.Checks.{Header as Bounds, test-vertices, test-longest, test-ends}
+use Rattle.calls.specs.Change.{Header, graphOf, Memory, Handed, back, Change, changedWith, buildRoom?, Leaves, fits?, settle, openRefusal, openCall, changeChecks, changeRefusal, insertRefusal, insertCall, removeRefusal, removeCall}
+use Rattle.calls.proofs.Checks.{numbered?, Passed, done, also, passes, Header as Bounds, test-vertices, test-longest, test-ends}
 
 -- ---- checks, and then further ones
-
--- every check has a number above 0
-abbrev pub numbered? : List Check → Bool
-numbered? [] = true
-numbered? ((zero, b) ∷ l) = false
-numbered? ((suc n, b) ∷ l) = numbered? l
-
--- where none refuses, each passes
-pub data Passed : List Check → Type 0 where
-  done : Passed []
-  also : {n : ℕ} {b : Bool} {l : List Check} → b ≡ true → Passed l → Passed ((n, b) ∷ l)
-
-pub passes : (l : List Check) → T (numbered? l) → firstRefusal l ≡ 0 → Passed l
-unfolding firstRefusal
-passes [] q e = done
-passes ((zero, b) ∷ l) q e = absurd q
-passes ((suc n, true) ∷ l) q e = also refl (passes l q e)
-passes ((suc n, false) ∷ l) q e = absurd (omega arith)
 
 pub stop-first : (l later : List Check) {n : ℕ} → firstRefusal l ≡ n → 1 ≤ n → firstRefusal (l ++ later) ≡ n
 unfolding firstRefusal
@@ -53,6 +36,10 @@ pass-first [] later q e = refl
 pass-first ((zero, b) ∷ l) later q e = absurd q
 pass-first ((suc n, true) ∷ l) later q e = pass-first l later q e
 pass-first ((suc n, false) ∷ l) later q e = absurd (omega arith)
+
+-- where none of them refuses, none of the first does
+pub front-passes : (l later : List Check) → firstRefusal (l ++ later) ≡ 0 → firstRefusal l ≡ 0
+front-passes l later e = elim (decLt 0 (firstRefusal l)) [ yes h ↦ absurd (omega (arith, stop-first l later refl h, e, h)) | no h ↦ omega (arith, h) ]
 
 -- what the checks 1 to 6 leave
 pub record Good (h : Header) (from label to : ℕ) (m : Memory) : Type 0 where
@@ -94,6 +81,15 @@ change-refused (suc n) given m c r e = record { answer = sym e; edges-after = re
 pub change-accepted : (n : ℕ) (given : Handed) (m : Memory) (c : Change) → n ≡ 0 → changedWith n given m c ≡ c
 change-accepted zero given m c e = refl
 change-accepted (suc n) given m c e = absurd (omega arith)
+
+-- the record handed back: the one given with a refusal, and with all answers where the call hands that one back
+pub refused-hands : (n : ℕ) (given : Handed) (m : Memory) (c : Change) → 1 ≤ n → changedWith n given m c .handed ≡ given
+refused-hands zero given m c h = absurd (omega arith)
+refused-hands (suc n) given m c h = refl
+
+hands-same : (n : ℕ) (given : Handed) (m : Memory) (c : Change) → c .handed ≡ given → changedWith n given m c .handed ≡ given
+hands-same zero given m c e = e
+hands-same (suc n) given m c e = refl
 
 -- ---- settling
 
@@ -157,3 +153,26 @@ settle-same given given′ h wanted m m′ {r} {edges} {index} {work} a b c v = 
           index-after = rw (sym b) (v′ .index-after);
           work-after = rw (sym c) (v′ .work-after);
         })
+
+-- ---- opening, insertion and removal hand back the record given
+
+settle-back : (h : Header) (wanted : List ℕ) (m : Memory) → settle (back h) h wanted m .handed ≡ back h
+unfolding settle
+settle-back h wanted m = go (fits? h wanted m) refl
+  where
+    go : (t : Bool) → fits? h wanted m ≡ t → settle (back h) h wanted m .handed ≡ back h
+    go true q = rw q refl
+    go false q = rw q refl
+
+module _ (h : Header) (m : Memory) where
+  pub open-hands : openCall h m .handed ≡ back h
+  unfolding openCall
+  open-hands = hands-same (openRefusal h m) (back h) m _ refl
+
+  pub insert-hands : (from label to : ℕ) → insertCall h from label to m .handed ≡ back h
+  unfolding insertCall
+  insert-hands from label to = hands-same (insertRefusal h from label to m) (back h) m _ (settle-back h _ m)
+
+  pub remove-hands : (from label to : ℕ) → removeCall h from label to m .handed ≡ back h
+  unfolding removeCall
+  remove-hands from label to = hands-same (removeRefusal h from label to m) (back h) m _ (settle-back h _ m)

@@ -2,8 +2,9 @@
 use mathlib.Core.Path.{_≡_, refl, subst, _∙_}
 use mathlib.Core.Bool.{Bool, true, false, cond}
 use mathlib.Core.List.{List, [], _∷_}
-use Prim.Native.Nat.{ℕ, _≤_, _<_}
+use Prim.Native.Nat.{ℕ, zero, suc, _≤_, _<_}
 use native.Mathlib.Omega.{arith}
+use lib.Dec.{T}
 use Rattle.model.specs.Limits.{mostVertices, mostLongest}
 use Rattle.model.proofs.Tests.{Tests, test-and, test-le, test-lt, test-yields}
 use Rattle.calls.specs.Checks.{vertices?, longest?, ends?, Check, firstRefusal, headerRefusal}
@@ -20,15 +21,23 @@ first-is none = refl
 first-is (pass e f) = rw e (first-is f)
 first-is (stop e) = rw e
 
--- where none refuses, the first has passed, and those after it
-pub record Passed (b : Bool) (later : List Check) : Type 0 where
-  pub here : b ≡ true
-  pub after : firstRefusal later ≡ 0
+-- every check has a number above 0
+abbrev pub numbered? : List Check → Bool
+numbered? [] = true
+numbered? ((zero, b) ∷ l) = false
+numbered? ((suc n, b) ∷ l) = numbered? l
 
-pub passed : (n : ℕ) (b : Bool) (later : List Check) → 1 ≤ n → firstRefusal ((n, b) ∷ later) ≡ 0 → Passed b later
+-- where none refuses, each passes
+pub data Passed : List Check → Type 0 where
+  done : Passed []
+  also : {n : ℕ} {b : Bool} {l : List Check} → b ≡ true → Passed l → Passed ((n, b) ∷ l)
+
+pub passes : (l : List Check) → T (numbered? l) → firstRefusal l ≡ 0 → Passed l
 unfolding firstRefusal
-passed n true later h e = record { here = refl; after = e }
-passed n false later h e = absurd (omega arith)
+passes [] q e = done
+passes ((zero, b) ∷ l) q e = absurd q
+passes ((suc n, true) ∷ l) q e = also refl (passes l q e)
+passes ((suc n, false) ∷ l) q e = absurd (omega arith)
 
 -- ---- the record's checks
 

@@ -10,7 +10,8 @@ use Rattle.model.specs.Lists.{filled, zeroed}
 use Rattle.model.specs.Entries.{determined}
 use Rattle.calls.specs.Checks.{Check, firstRefusal}
 use Rattle.calls.specs.Change.{Header, graphOf, Memory, Handed, back, Change, changedWith, fits?, settle}
-use Rattle.calls.proofs.Change.{numbered?, stop-first, pass-first}
+use Rattle.calls.proofs.Checks.{numbered?}
+use Rattle.calls.proofs.Change.{stop-first, pass-first}
 
 -- what is left where a change is accepted
 abbrev pub settledChange : Header → List ℕ → Memory → Change

@@ -1,7 +1,7 @@
 -- From the checks 1 to 6 to the lookup of the named edge, and from what it finds to the refusal of an insertion or a removal.
 use mathlib.Core.Path.{_≡_, sym, ap, _∙_}
-use mathlib.Core.Bool.{true, false, not}
-use mathlib.Core.List.{List}
+use mathlib.Core.Bool.{Bool, true, false, not}
+use mathlib.Core.List.{List, [], _∷_}
 use Prim.Native.Nat.{ℕ, _≤_, _<_}
 use native.Mathlib.Omega.{arith}
 use lib.ListN.{length, getD, take}
@@ -11,14 +11,14 @@ use Rattle.model.specs.Edges.{edgeNumber, edgeMemory?, standing}
 use Rattle.model.specs.Replies.{numberOf}
 use Rattle.model.specs.declared.Refusal.{Refusal}
 use Rattle.model.proofs.Replies.{number-some}
-use Rattle.model.proofs.Tests.{test-true, test-false, test-mem, test-not, test-lt}
+use Rattle.model.proofs.Tests.{test-true, test-false, test-yields, test-mem, test-not, test-lt}
 use Rattle.edges.specs.Memory.{scanOf, findOf}
 use Rattle.edges.specs.declared.Scanned.the-variants.{Edges}
 use Rattle.edges.specs.declared.Found.the-variants.{At, Before}
 use Rattle.edges.proofs.Memory.{Scans, scans, Stands, stands, Lacks, lacks}
-use Rattle.calls.specs.Checks.{firstRefusal}
+use Rattle.calls.specs.Checks.{Check}
 use Rattle.calls.specs.Change.{Header, Memory, changeChecks, changeRefusal, insertRefusal, removeRefusal}
-use Rattle.calls.proofs.Checks.{none, pass, stop, first-is}
+use Rattle.calls.proofs.Checks.{none, pass, stop, first-is, Passed, also, passes}
 use Rattle.calls.proofs.Change.{stop-first, pass-first, Good, change-good}
 use Rattle.named.specs.Named.{Passes, Places, Takes}
 
@@ -108,3 +108,20 @@ module _ {h : Header} {from label to : ℕ} {m : Memory} where
                   ∙ found e .there;
             };
           }
+
+-- what the last checks leave
+first-of : {n : ℕ} {b : Bool} {l : List Check} → Passed ((n, b) ∷ l) → b ≡ true
+first-of (also e p) = e
+
+module _ {h : Header} {from label to : ℕ} {m : Memory} {n at : ℕ} where
+  pub places-absent : Places h from label to m n at → ¬ (edgeNumber from label to ∈ standing (m .edges))
+  unfolding changeRefusal insertRefusal
+  places-absent p =
+      test-yields (test-not (test-mem (edgeNumber from label to) (standing (m .edges))))
+      (first-of (passes _ tt (sym (pass-first (changeChecks h from label to m) _ tt (p .passes .is)) ∙ p .is)))
+
+  pub takes-present : Takes h from label to m n at → edgeNumber from label to ∈ standing (m .edges)
+  unfolding changeRefusal removeRefusal
+  takes-present p =
+      test-yields (test-mem (edgeNumber from label to) (standing (m .edges)))
+      (first-of (passes _ tt (sym (pass-first (changeChecks h from label to m) _ tt (p .passes .is)) ∙ p .is)))

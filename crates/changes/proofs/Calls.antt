@@ -1,0 +1,107 @@
+-- From the checks of a call to the wanted edges, and from what settling leaves to what the call leaves.
+use mathlib.Core.Path.{_≡_, refl, sym, ap, _∙_}
+use mathlib.Core.Logic.{⊎-elim}
+use mathlib.Core.Bool.{true}
+use mathlib.Core.List.{List}
+use Prim.Native.Nat.{ℕ, suc, _+_, _-_, _≤_, _<_}
+use native.Mathlib.Omega.{arith}
+use lib.ListN.{length}
+use Rattle.model.specs.Lists.{_∈_, zeroed}
+use Rattle.model.specs.Edges.{edgeNumber, edge?, standing, insertEdge, removeEdge}
+use Rattle.model.specs.Limits.{mostEdges, leastWork, mostLabel}
+use Rattle.model.specs.Replies.{numberOf}
+use Rattle.model.specs.declared.Refusal.{Refusal}
+use Rattle.model.specs.declared.Answer.{Answer}
+use Rattle.model.specs.declared.Answer.the-variants.{Accepted, Refused}
+use Rattle.model.proofs.Edges.{edge-fields, test-edge}
+use Rattle.model.proofs.Tests.{test-true}
+use Rattle.edges.proofs.Memory.{length-insert, member-insert, rising-insert, length-remove, member-remove, rising-remove}
+use Rattle.calls.specs.Change.{Header, Memory, back, Leaves, settle, openRefusal, openCall, insertRefusal, insertCall, removeRefusal, removeCall}
+use Rattle.calls.proofs.Change.{Good, change-refused, change-accepted}
+use Rattle.named.specs.Named.{Passes, Places, Takes}
+use Rattle.named.proofs.Naming.{good, memory, places-absent, takes-present}
+use Rattle.changes.proofs.Trying.{Wanted}
+
+-- ---- opening
+
+module _ (h : Header) (m : Memory) where
+  pub open-stops : (r : Refusal) → openRefusal h m ≡ numberOf r → Leaves (openCall h m) (Refused r) (m .edges) (m .index) (m .work)
+  unfolding openCall
+  open-stops r e = change-refused (openRefusal h m) (back h) m _ r e
+
+  pub open-leaves : {edges index : List ℕ} → openRefusal h m ≡ 0 → edges ≡ zeroed (m .edges) → index ≡ zeroed (m .index)
+      → Leaves (openCall h m) Accepted edges index (m .work)
+  unfolding openCall
+  open-leaves e a b =
+      rw (change-accepted (openRefusal h m) (back h) m _ e) (record { answer = refl; edges-after = a; index-after = b; work-after = refl })
+
+-- ---- insertion and removal
+
+-- a refusal leaves memory alone
+module _ (h : Header) (from label to : ℕ) (m : Memory) where
+  pub insert-stops : (r : Refusal) → insertRefusal h from label to m ≡ numberOf r → Leaves (insertCall h from label to m) (Refused r) (m .edges) (m .index) (m .work)
+  unfolding insertCall
+  insert-stops r e = change-refused (insertRefusal h from label to m) (back h) m _ r e
+
+  pub remove-stops : (r : Refusal) → removeRefusal h from label to m ≡ numberOf r → Leaves (removeCall h from label to m) (Refused r) (m .edges) (m .index) (m .work)
+  unfolding removeCall
+  remove-stops r e = change-refused (removeRefusal h from label to m) (back h) m _ r e
+
+module _ {h : Header} {from label to : ℕ} {m : Memory} where
+  -- the named edge is one of the graph
+  named-edge : Good h from label to m → edge? (h .vertices) (edgeNumber from label to) ≡ true
+  named-edge g =
+      let (a, b, c) = edge-fields from label to (omega (arith, g .label-most)) (omega (arith, g .to-vertex, g .header .vertices-most)) in
+      test-true (test-edge (h .vertices) (edgeNumber from label to)) (record {
+        from = omega (arith, a, g .from-vertex);
+        label-low = omega (arith, b, g .label-least);
+        label-high = omega (arith, b, g .label-most);
+        to = omega (arith, c, g .to-vertex);
+      })
+
+  module _ {n at : ℕ} where
+    pub insert-wanted : Places h from label to m n at → Wanted h (insertEdge (edgeNumber from label to) (standing (m .edges))) m
+    insert-wanted p =
+        let x : ℕ = edgeNumber from label to in
+        let g = good (p .passes) in
+        let s = memory (p .passes) in
+        record {
+          header = g .header;
+          few = s .slots;
+          fits = omega (arith, length-insert x (standing (m .edges)), s .count, p .place .room);
+          rises = rising-insert x (standing (m .edges)) (s .rising) (places-absent p);
+          valid = λ z k. ⊎-elim (λ e. rw e (named-edge g)) (λ l. s .edges z l) (member-insert x (standing (m .edges)) z .0 k);
+          room = g .room;
+        }
+
+    pub insert-count : Places h from label to m n at → n + 1 ≡ length (insertEdge (edgeNumber from label to) (standing (m .edges)))
+    insert-count p = omega (arith, length-insert (edgeNumber from label to) (standing (m .edges)), p .passes .count)
+
+    pub insert-leaves : Places h from label to m n at → {r : Answer} {edges index work : List ℕ}
+        → Leaves (settle (back h) h (insertEdge (edgeNumber from label to) (standing (m .edges))) m) r edges index work
+        → Leaves (insertCall h from label to m) r edges index work
+    unfolding insertCall
+    insert-leaves p l = rw (change-accepted (insertRefusal h from label to m) (back h) m _ (p .is)) l
+
+    pub remove-wanted : Takes h from label to m n at → Wanted h (removeEdge (edgeNumber from label to) (standing (m .edges))) m
+    remove-wanted p =
+        let x : ℕ = edgeNumber from label to in
+        let g = good (p .passes) in
+        let s = memory (p .passes) in
+        record {
+          header = g .header;
+          few = s .slots;
+          fits = omega (arith, length-remove x (standing (m .edges)) (takes-present p), s .count, s .within);
+          rises = rising-remove x (standing (m .edges)) (s .rising);
+          valid = λ z k. s .edges z (member-remove x (standing (m .edges)) (s .rising) z .0 k .0);
+          room = g .room;
+        }
+
+    pub remove-count : Takes h from label to m n at → n - 1 ≡ length (removeEdge (edgeNumber from label to) (standing (m .edges)))
+    remove-count p = omega (arith, length-remove (edgeNumber from label to) (standing (m .edges)) (takes-present p), p .passes .count)
+
+    pub remove-leaves : Takes h from label to m n at → {r : Answer} {edges index work : List ℕ}
+        → Leaves (settle (back h) h (removeEdge (edgeNumber from label to) (standing (m .edges))) m) r edges index work
+        → Leaves (removeCall h from label to m) r edges index work
+    unfolding removeCall
+    remove-leaves p l = rw (change-accepted (removeRefusal h from label to m) (back h) m _ (p .is)) l

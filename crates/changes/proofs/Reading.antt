@@ -1,0 +1,125 @@
+-- From the checks of a card reading to the wanted edges, and from what settling leaves to what the call leaves.
+use mathlib.Core.Path.{_≡_, refl, sym, ap, _∙_}
+use mathlib.Core.Bool.{true, false}
+use mathlib.Core.List.{List, [], _∷_, _++_}
+use Prim.Native.Nat.{ℕ, _+_, _≤_, _<_}
+use native.Mathlib.Omega.{arith}
+use lib.Dec.{leb}
+use lib.ListN.{length, getD, drop}
+use Rattle.model.specs.Limits.{mostEdges, mostVertices, leastWork}
+use Rattle.model.specs.Replies.{numberOf, answerOf}
+use Rattle.model.specs.declared.Refusal.{Refusal}
+use Rattle.model.specs.declared.Answer.{Answer}
+use Rattle.model.specs.declared.Answer.the-variants.{Refused}
+use Rattle.model.proofs.Replies.{number-some}
+use Rattle.model.proofs.Tests.{test-le, test-true, test-false, test-yields}
+use Rattle.calls.specs.Change.{Header, Memory, none as no-record, Change, buildRoom?, Leaves, settle}
+use Rattle.calls.specs.Card.{headBytes, headerOf, countOf, edgesOf, cardChecks, cardRefusal, readRefusal, readCall}
+use Rattle.calls.proofs.Checks.{First, none, pass, stop, first-is, Passed, done, also, passes}
+use Rattle.calls.proofs.Change.{stop-first, pass-first, front-passes, change-refused, change-accepted, refused-hands, handedBy, settle-hands}
+use Rattle.calls.proofs.Card.{CardGood, card-good, legs-good}
+use Rattle.card.specs.Card.{Fillable}
+use Rattle.changes.specs.Changes.{Reads}
+use Rattle.changes.proofs.Trying.{Wanted}
+
+-- ---- the checks
+
+module _ (card : List ℕ) (m : Memory) where
+  -- a refusal of the card alone is the call's
+  pub read-stops : (r : Refusal) → cardRefusal card ≡ numberOf r → readRefusal card m ≡ numberOf r
+  unfolding cardRefusal readRefusal
+  read-stops r e = stop-first (cardChecks card) _ e (number-some r)
+
+  -- and then 3, 9 and 4
+  module _ (e : cardRefusal card ≡ 0) where
+    pub read-many : mostEdges < length (m .edges) → readRefusal card m ≡ 3
+    unfolding cardRefusal readRefusal
+    read-many h = pass-first (cardChecks card) _ tt e ∙ first-is (stop (test-false (test-le (length (m .edges)) mostEdges) (λ k. omega (arith, k, h))))
+
+    module _ (few : length (m .edges) ≤ mostEdges) where
+      pub read-full : length (m .edges) < countOf card → readRefusal card m ≡ 9
+      unfolding cardRefusal readRefusal
+      read-full h =
+          pass-first (cardChecks card) _ tt e
+          ∙ first-is (pass (test-true (test-le (length (m .edges)) mostEdges) few) (stop (test-false (test-le (countOf card) (length (m .edges))) (λ k. omega (arith, k, h)))))
+
+      -- 4 by its test
+      module _ (fits : countOf card ≤ length (m .edges)) where
+        pub read-short : buildRoom? m ≡ false → readRefusal card m ≡ 4
+        unfolding cardRefusal readRefusal
+        read-short h =
+            pass-first (cardChecks card) _ tt e
+            ∙ first-is (pass (test-true (test-le (length (m .edges)) mostEdges) few) (pass (test-true (test-le (countOf card) (length (m .edges))) fits) (stop h)))
+
+        pub read-passes : buildRoom? m ≡ true → readRefusal card m ≡ 0
+        unfolding cardRefusal readRefusal
+        read-passes h =
+            pass-first (cardChecks card) _ tt e
+            ∙ first-is (pass (test-true (test-le (length (m .edges)) mostEdges) few) (pass (test-true (test-le (countOf card) (length (m .edges))) fits) (pass h none)))
+
+-- what they leave
+record Good (card : List ℕ) (m : Memory) : Type 0 where
+  alone : CardGood card
+  few : length (m .edges) ≤ mostEdges
+  fits : countOf card ≤ length (m .edges)
+  room : leastWork + length (m .index) ≤ length (m .work)
+
+good : (card : List ℕ) (m : Memory) → readRefusal card m ≡ 0 → Good card m
+unfolding cardRefusal readRefusal
+good card m e = go (passes _ tt (sym (pass-first (cardChecks card) _ tt alone) ∙ e))
+  where
+    alone : cardRefusal card ≡ 0
+    alone = front-passes (cardChecks card) _ e
+
+    go : Passed ((3, leb (length (m .edges)) mostEdges) ∷ (9, leb (countOf card) (length (m .edges))) ∷ (4, buildRoom? m) ∷ []) → Good card m
+    go (also a (also b (also c done))) =
+        record {
+          alone = card-good card alone;
+          few = test-yields (test-le (length (m .edges)) mostEdges) a;
+          fits = test-yields (test-le (countOf card) (length (m .edges))) b;
+          room = test-yields (test-le (leastWork + length (m .index)) (length (m .work))) c;
+        }
+
+-- ---- the legs of the card, and what is left
+
+-- by an answer that is known
+pub leaves-as : {c : Change} {r r′ : Answer} {edges index work : List ℕ} → r ≡ r′ → Leaves c r edges index work → Leaves c r′ edges index work
+leaves-as e l = record { answer = ap answerOf (sym e) ∙ l .answer; edges-after = l .edges-after; index-after = l .index-after; work-after = l .work-after }
+
+module _ {card : List ℕ} {m : Memory} {h : Header} {n : ℕ} (p : Reads card m h n) where
+  pub read-count : n ≡ length (edgesOf (drop headBytes card))
+  read-count = p .count ∙ sym (good card m (p .is) .alone .count)
+
+  pub read-fillable : Fillable card n (m .edges)
+  read-fillable = rw (p .count) (record { whole = good card m (p .is) .alone .whole; room = good card m (p .is) .fits })
+
+  -- the places byte is a byte
+  pub read-wanted : getD card 5 0 < 256 → Wanted h (edgesOf (drop headBytes card)) m
+  read-wanted b = rw (p .header) (let g = good card m (p .is) in
+      let l = legs-good (headerOf card .vertices) 0 (drop headBytes card) (g .alone .legs) (omega (arith, b)) in
+      record {
+        header = record { vertices-least = omega arith; vertices-most = omega (arith, b); longest-least = g .alone .longest-least; longest-most = g .alone .longest-most };
+        few = g .few;
+        fits = omega (arith, g .alone .count, g .fits);
+        rises = l .rising;
+        valid = λ x k. l .each x k .1;
+        room = g .room;
+      })
+
+  module _ {r : Answer} {edges index work : List ℕ} (l : Leaves (settle no-record h (edgesOf (drop headBytes card)) m) r edges index work) where
+    pub read-leaves : Leaves (readCall card m) r edges index work
+    unfolding readCall
+    read-leaves = rw (change-accepted (readRefusal card m) no-record m _ (p .is)) (rw (p .header) at l)
+
+    pub read-hands : readCall card m .handed ≡ handedBy r no-record h
+    unfolding readCall
+    read-hands = rw (change-accepted (readRefusal card m) no-record m _ (p .is), sym (p .header)) (settle-hands no-record h (edgesOf (drop headBytes card)) m r (l .answer))
+
+module _ (card : List ℕ) (m : Memory) (r : Refusal) (e : readRefusal card m ≡ numberOf r) where
+  pub refused-leaves : Leaves (readCall card m) (Refused r) (m .edges) (m .index) (m .work)
+  unfolding readCall
+  refused-leaves = change-refused (readRefusal card m) no-record m _ r e
+
+  pub refused-none : readCall card m .handed ≡ no-record
+  unfolding readCall
+  refused-none = refused-hands (readRefusal card m) no-record m _ (omega (arith, e, number-some r))

@@ -1,0 +1,174 @@
+-- `changes::read` meets its contract: a refusal leaves memory alone; else edge memory is saved, filled from the card, and settled.
+use mathlib.Core.Path.{_≡_, sym, ap, _∙_}
+use mathlib.Core.List.{List}
+use Prim.Native.Nat.{ℕ, _-_, _≤_}
+use native.Mathlib.Omega.{arith}
+use borrow.Author.Needs.{needs}
+use borrow.Rule.Slice.PartMut.{putMid, same-len-mid}
+use lib.ListN.{length, drop}
+use Rattle.model.specs.Limits.{leastWork}
+use Rattle.calls.specs.Change.{Header, Memory, none, numbersOf, Leaves, settle}
+use Rattle.calls.specs.Card.{headBytes, edgesOf}
+use Rattle.changes.specs.Changes.{Reads}
+use Rattle.changes.proofs.Trying.{Wanted, Tried, save-room, saved-there, settleable, settled}
+use Rattle.changes.proofs.Reading.{read-count, read-fillable, read-wanted, read-leaves, read-hands, leaves-as, refused-leaves, refused-none}
+use Rattle.changes.proofs.read.Statement.{statement}
+use Rattle.changes.proofs.read.Tie as tie
+
+abbrev start : tie.After-known-told2 → tie.Start
+start c = c .before .before .before .before .before .before .before .before .before .before .before
+
+abbrev header : tie.After-known-told2 → Header
+header c = record { vertices = c .before .layout2 .given .0 .0; longest = c .before .layout2 .given .0 .1 .0 }
+
+abbrev memory : tie.After-known-told2 → Memory
+memory c = record { edges = start c .args .edges .now; index = start c .args .index .now; work = start c .args .work .now }
+
+-- the legs of the card
+abbrev legs : tie.After-known-told2 → List ℕ
+legs c = edgesOf (drop headBytes (start c .args .card .now))
+
+-- all checks have passed
+passed : (c : tie.After-known-told2) → Reads (start c .args .card .now) (memory c) (header c) (c .before .layout2 .given .0 .1 .1 .0)
+passed c = rw (c .before .layout2 .given .1) at (c .before .before .before .check-read .ensures)
+
+wanted : (c : tie.After-known-told2) → Wanted (header c) (legs c) (memory c)
+wanted c = read-wanted (passed c) (omega (arith, c .before .before .before .before .before .before .before .before .before .before .shared-slice-known .given 5))
+
+-- work memory is long enough
+long : (c : tie.After-known-told2) → leastWork ≤ length (start c .args .work .now)
+long c = omega (arith, wanted c .room)
+
+-- where edge memory is filled
+abbrev checked : tie.After-slice-known5 → tie.After-known-told2
+checked c = c .before .before .before .before .before .before .before .before .before
+
+tried : (c : tie.After-slice-known5)
+    → Tried (legs (checked c)) (memory (checked c)) (checked c .before .layout2 .given .0 .1 .1 .0) (c .before .before .fill .last .1 .1 .0)
+    (putMid 2048 (length (memory (checked c) .work) - 2048) (memory (checked c) .work) (c .before .before .before .before .before .before .save .last .1 .0))
+tried c =
+    let save = c .before .before .before .before .before .before .save in
+    let m = memory (checked c) in
+    record {
+      count = read-count (passed (checked c));
+      edges-are = c .before .before .fill .ensures;
+      saved = saved-there (m .edges) (m .work) (save .last .1 .0) _ _ (omega (arith, long (checked c))) (save .ensures);
+      work-long = same-len-mid 2048 (length (m .work) - 2048) (m .work) (save .last .1 .0) (save .kept .1 .0);
+      narrow = λ i. omega (arith, checked c .before .before .before .before .before .before .before .before .before .slice-known .given i);
+    }
+
+-- where it is settled
+abbrev filled : tie.After-settle → tie.After-slice-known5
+filled c = c .before .before .before .before
+
+leaves : (c : tie.After-settle)
+    → Leaves (settle none (header (checked (filled c))) (legs (checked (filled c))) (memory (checked (filled c)))) (c .settle .result)
+    (c .settle .last .1 .1 .1 .0) (c .settle .last .1 .1 .1 .1 .0) (c .settle .last .1 .1 .1 .1 .1 .0)
+leaves c = settled (wanted (checked (filled c))) (tried (filled c)) none (c .settle .ensures)
+
+check-read-requires : tie.Need-check-read-requires
+check-read-requires c κs = search needs
+
+enum-known-layout : tie.Need-enum-known-layout
+enum-known-layout c = search needs
+
+enum-known-layout-2 : tie.Need-enum-known-layout-2
+enum-known-layout-2 c = search needs
+
+sub-save : tie.Need-sub-save
+sub-save c = omega (arith, long (c .before))
+
+part-save-start : tie.Need-part-save-start
+part-save-start c = omega (arith, long (c .before))
+
+part-save-end : tie.Need-part-save-end
+part-save-end c = search needs
+
+save-requires : tie.Need-save-requires
+save-requires c κs = save-room (memory (c .before .before) .edges) (memory (c .before .before) .work) (wanted (c .before .before) .few) (long (c .before .before))
+
+fill-requires : tie.Need-fill-requires
+fill-requires c κs = read-fillable (passed (c .before .before .before .before .before .before))
+
+settle-requires : tie.Need-settle-requires
+settle-requires c κs = settleable (wanted (checked (c .before .before .before))) (tried (c .before .before .before))
+
+enum-known-answer : tie.Need-enum-known-answer
+enum-known-answer c = search needs
+
+same-length : tie.Need-same-length
+same-length c = search needs
+
+same-length-2 : tie.Need-same-length-2
+same-length-2 c = search needs
+
+same-length-3 : tie.Need-same-length-3
+same-length-3 c = search needs
+
+returns : tie.Need-returns
+returns c =
+    let k = c .before .before .before .before .before .before .before .before .before in
+    let l = leaves-as (c .before .answer .given .1) (leaves k) in
+    let p = passed (checked (filled k)) in
+    record { header = sym (ap numbersOf (read-hands p l)); leaves = read-leaves p l }
+
+enum-told : tie.Need-enum-told
+enum-told c = search needs
+
+same-length-4 : tie.Need-same-length-4
+same-length-4 c = search needs
+
+same-length-5 : tie.Need-same-length-5
+same-length-5 c = search needs
+
+same-length-6 : tie.Need-same-length-6
+same-length-6 c = search needs
+
+returns-2 : tie.Need-returns-2
+returns-2 c =
+    let e = rw (c .before .layout .given .1) at (c .before .before .before .check-read .ensures) in
+    record { header = sym (ap numbersOf (refused-none _ _ (c .before .layout .given .0 .0) e)); leaves = refused-leaves _ _ (c .before .layout .given .0 .0) e }
+
+same-length-7 : tie.Need-same-length-7
+same-length-7 c = search needs
+
+same-length-8 : tie.Need-same-length-8
+same-length-8 c = search needs
+
+same-length-9 : tie.Need-same-length-9
+same-length-9 c = search needs
+
+returns-3 : tie.Need-returns-3
+returns-3 c =
+    let k = c .before .before .before .before .before .before .before .before in
+    let l = leaves-as (c .enum-told .given .1) (leaves k) in
+    let p = passed (checked (filled k)) in
+    record { header = sym (ap numbersOf (read-hands p l)); leaves = read-leaves p l }
+
+pub read-spec : {M : Type 1} → statement M
+read-spec =
+    tie.close
+    (tie.spec
+    check-read-requires
+    enum-known-layout
+    enum-known-layout-2
+    sub-save
+    part-save-start
+    part-save-end
+    save-requires
+    fill-requires
+    settle-requires
+    enum-known-answer
+    same-length
+    same-length-2
+    same-length-3
+    returns
+    enum-told
+    same-length-4
+    same-length-5
+    same-length-6
+    returns-2
+    same-length-7
+    same-length-8
+    same-length-9
+    returns-3)

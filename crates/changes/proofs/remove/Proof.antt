@@ -1,0 +1,144 @@
+-- `changes::remove` meets its contract: a refusal leaves memory alone; else edge memory is saved, the removal made and settled.
+use mathlib.Core.Path.{_≡_, sym, ap, _∙_}
+use mathlib.Core.List.{List}
+use Prim.Native.Nat.{ℕ, _+_, _-_, _≤_, _<_}
+use native.Mathlib.Omega.{arith}
+use borrow.Author.Needs.{needs}
+use borrow.Rule.Slice.PartMut.{putMid, same-len-mid}
+use lib.ListN.{length}
+use Rattle.model.specs.Lists.{filled}
+use Rattle.model.specs.Limits.{leastWork}
+use Rattle.model.specs.Edges.{edgeNumber, standing, removeEdge}
+use Rattle.calls.specs.Change.{Header, Memory, back}
+use Rattle.named.specs.Named.{Takes}
+use Rattle.named.proofs.Naming.{numbered}
+use Rattle.changes.proofs.Trying.{Tried, save-room, saved-there, settleable, settled}
+use Rattle.changes.proofs.Calls.{remove-stops, remove-wanted, remove-count, remove-leaves}
+use Rattle.changes.proofs.remove.Statement.{statement}
+use Rattle.changes.proofs.remove.Tie as tie
+
+abbrev start : tie.After-known-told2 → tie.Start
+start c = c .before .before .before .before .before .before .before .before .before .before
+
+abbrev header : tie.After-known-told2 → Header
+header c = record { vertices = start c .args .vertices; longest = start c .args .longest }
+
+abbrev memory : tie.After-known-told2 → Memory
+memory c = record { edges = start c .args .edges .now; index = start c .args .index .now; work = start c .args .work .now }
+
+-- the wanted edges
+abbrev wanted : tie.After-known-told2 → List ℕ
+wanted c = removeEdge (edgeNumber (start c .args .from) (start c .args .label) (start c .args .to)) (standing (start c .args .edges .now))
+
+-- all checks have passed
+passed : (c : tie.After-known-told2)
+    → Takes (header c) (start c .args .from) (start c .args .label) (start c .args .to) (memory c) (c .before .slot2 .given .0 .0) (c .before .slot2 .given .0 .1 .0)
+passed c = rw (c .before .slot2 .given .1) at (c .before .before .before .check-remove .ensures)
+
+-- work memory is long enough
+long : (c : tie.After-known-told2) → leastWork ≤ length (start c .args .work .now)
+long c = omega (arith, remove-wanted (passed c) .room)
+
+-- where edge memory is changed
+abbrev checked : tie.After-slice-known5 → tie.After-known-told2
+checked c = c .before .before .before .before .before .before .before .before .before .before
+
+tried : (c : tie.After-slice-known5)
+    → Tried (wanted (checked c)) (memory (checked c)) (checked c .before .slot2 .given .0 .0 - 1) (c .before .before .remove .last .0)
+    (putMid 2048 (length (memory (checked c) .work) - 2048) (memory (checked c) .work) (c .before .before .before .before .before .before .before .save .last .1 .0))
+tried c =
+    let save = c .before .before .before .before .before .before .before .save in
+    let m = memory (checked c) in
+    record {
+      count = remove-count (passed (checked c));
+      edges-are =
+          c .before .before .remove .ensures
+          ∙ ap (λ (x : ℕ). filled (length (m .edges)) (removeEdge x (standing (m .edges)))) (c .before .before .before .edge-number .ensures);
+      saved = saved-there (m .edges) (m .work) (save .last .1 .0) _ _ (omega (arith, long (checked c))) (save .ensures);
+      work-long = same-len-mid 2048 (length (m .work) - 2048) (m .work) (save .last .1 .0) (save .kept .1 .0);
+      narrow = λ i. omega (arith, checked c .before .before .before .before .before .before .before .before .before .slice-known .given i);
+    }
+
+check-remove-requires : tie.Need-check-remove-requires
+check-remove-requires c κs = search needs
+
+enum-known-slot : tie.Need-enum-known-slot
+enum-known-slot c = search needs
+
+enum-known-slot-2 : tie.Need-enum-known-slot-2
+enum-known-slot-2 c = search needs
+
+sub-save : tie.Need-sub-save
+sub-save c = omega (arith, long (c .before))
+
+part-save-start : tie.Need-part-save-start
+part-save-start c = omega (arith, long (c .before))
+
+part-save-end : tie.Need-part-save-end
+part-save-end c = search needs
+
+save-requires : tie.Need-save-requires
+save-requires c κs = save-room (memory (c .before .before) .edges) (memory (c .before .before) .work) (remove-wanted (passed (c .before .before)) .few) (long (c .before .before))
+
+edge-number-requires : tie.Need-edge-number-requires
+edge-number-requires c κs = numbered (passed (c .before .before .before .before .before .before) .passes)
+
+remove-requires : tie.Need-remove-requires
+remove-requires c κs = rw (c .edge-number .ensures) (passed (c .before .before .before .before .before .before .before) .place)
+
+sub-settle : tie.Need-sub-settle
+sub-settle c = omega (arith, passed (checked c) .place .inside)
+
+settle-requires : tie.Need-settle-requires
+settle-requires c κs = settleable (remove-wanted (passed (checked (c .before .before .before)))) (tried (c .before .before .before))
+
+same-length : tie.Need-same-length
+same-length c = search needs
+
+same-length-2 : tie.Need-same-length-2
+same-length-2 c = search needs
+
+same-length-3 : tie.Need-same-length-3
+same-length-3 c = search needs
+
+returns : tie.Need-returns
+returns c = remove-stops _ _ _ _ _ (c .before .slot .given .0 .0) (rw (c .before .slot .given .1) at (c .before .before .before .check-remove .ensures))
+
+same-length-4 : tie.Need-same-length-4
+same-length-4 c = search needs
+
+same-length-5 : tie.Need-same-length-5
+same-length-5 c = search needs
+
+same-length-6 : tie.Need-same-length-6
+same-length-6 c = search needs
+
+returns-2 : tie.Need-returns-2
+returns-2 c =
+    let settle = c .before .before .before .before .before .before in
+    let k = settle .before .before .before .before in
+    remove-leaves (passed (checked k)) (settled (remove-wanted (passed (checked k))) (tried k) (back (header (checked k))) (settle .settle .ensures))
+
+pub remove-spec : {M : Type 1} → statement M
+remove-spec =
+    tie.close
+    (tie.spec
+    check-remove-requires
+    enum-known-slot
+    enum-known-slot-2
+    sub-save
+    part-save-start
+    part-save-end
+    save-requires
+    edge-number-requires
+    remove-requires
+    sub-settle
+    settle-requires
+    same-length
+    same-length-2
+    same-length-3
+    returns
+    same-length-4
+    same-length-5
+    same-length-6
+    returns-2)

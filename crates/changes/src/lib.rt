@@ -1,0 +1,161 @@
+// The calls that change the layout, over plain numbers: opening, insertion (laying), removal (lifting) and card reading. Checks first,
+// which read only; then edge memory is saved, the wanted edges are written, and `settle` does the rest.
+use card::Checked;
+use model::Answer;
+use model::Refusal;
+use named::Slot;
+ghost use mathlib.Core.List.{[]};
+ghost use Rattle.calls.specs.Change.{Leaves, openCall, insertCall, removeCall};
+ghost use Rattle.calls.specs.Card.{readCall};
+ghost use Rattle.changes.specs.Changes.{Readings, CardMeets};
+
+const MOST_EDGES: usize = 1024;
+
+// A card's vertices, longest pattern and number of legs, or the refusal.
+enum Layout {
+    Holds(u32, u32, usize),
+    Refused(Refusal),
+}
+
+// The checks of a card reading: 14 15 2 16 of the card, then 3 9 4.
+fn check_read(card: &[u8], edges: &[u32], index: &[u64], work: &[u64]) -> Layout
+    ensures { λ r. ⌜
+        Readings (now (card .entry))
+        (record { edges = now (edges .entry); index = now (index .entry); work = now (work .entry) }) r
+        ⌝ }
+{
+    let checked = card::check(card);
+    match checked {
+        Checked::Refused(refusal) => Layout::Refused(refusal),
+        Checked::Layout(vertices, longest, n) => {
+            if MOST_EDGES < edges.len() {
+                return Layout::Refused(Refusal::EdgeMemory);
+            }
+            if edges.len() < n {
+                return Layout::Refused(Refusal::EdgeSlots);
+            }
+            if checks::has_room(index.len(), work.len()) {
+                return Layout::Holds(vertices, longest, n);
+            }
+            Layout::Refused(Refusal::WorkMemory)
+        }
+    }
+}
+
+// Opening.
+pub fn open(vertices: u32, longest: u32, edges: &mut [u32], index: &mut [u64]) -> Answer
+    ensures { λ r. ⌜
+        Leaves (openCall (record { vertices = vertices; longest = longest })
+        (record { edges = now (edges .entry); index = now (index .entry); work = [] }))
+        r (now (edges .exit)) (now (index .exit)) []
+        ⌝ }
+{
+    let header = checks::check_header(vertices, longest);
+    if let Answer::Refused(refusal) = header {
+        return Answer::Refused(refusal);
+    }
+    if MOST_EDGES < edges.len() {
+        return Answer::Refused(Refusal::EdgeMemory);
+    }
+    edges::clear_edges(edges);
+    edges::clear_work(index);
+    Answer::Accepted
+}
+
+// Insertion (laying).
+pub fn insert(
+    vertices: u32,
+    longest: u32,
+    from: u32,
+    label: u32,
+    to: u32,
+    edges: &mut [u32],
+    index: &mut [u64],
+    work: &mut [u64],
+) -> Answer
+    ensures { λ r. ⌜
+        Leaves (insertCall (record { vertices = vertices; longest = longest }) from label to
+        (record { edges = now (edges .entry); index = now (index .entry); work = now (work .entry) }))
+        r (now (edges .exit)) (now (index .exit)) (now (work .exit))
+        ⌝ }
+{
+    let slot = named::check_insert(vertices, longest, from, label, to, edges, index, work);
+    match slot {
+        Slot::Refused(refusal) => Answer::Refused(refusal),
+        Slot::At(n, at) => {
+            edges::save(edges, &mut work[settle::SAVED..]);
+            edges::insert(edges, n, at, edges::edge_number(from, label, to));
+            settle::settle(vertices, longest, n + 1, edges, index, work)
+        }
+    }
+}
+
+// Removal (lifting).
+pub fn remove(
+    vertices: u32,
+    longest: u32,
+    from: u32,
+    label: u32,
+    to: u32,
+    edges: &mut [u32],
+    index: &mut [u64],
+    work: &mut [u64],
+) -> Answer
+    ensures { λ r. ⌜
+        Leaves (removeCall (record { vertices = vertices; longest = longest }) from label to
+        (record { edges = now (edges .entry); index = now (index .entry); work = now (work .entry) }))
+        r (now (edges .exit)) (now (index .exit)) (now (work .exit))
+        ⌝ }
+{
+    let slot = named::check_remove(vertices, longest, from, label, to, edges, index, work);
+    match slot {
+        Slot::Refused(refusal) => Answer::Refused(refusal),
+        Slot::At(n, at) => {
+            edges::save(edges, &mut work[settle::SAVED..]);
+            edges::remove(edges, n, at, edges::edge_number(from, label, to));
+            settle::settle(vertices, longest, n - 1, edges, index, work)
+        }
+    }
+}
+
+// A card reading's answer, with the card's numbers where it is accepted and zeros, no record, where it is refused.
+pub struct CardRead {
+    pub vertices: u32,
+    pub longest: u32,
+    pub answer: Answer,
+}
+
+// Card reading.
+pub fn read(card: &[u8], edges: &mut [u32], index: &mut [u64], work: &mut [u64]) -> CardRead
+    ensures { λ r. ⌜
+        CardMeets (readCall (now (card .entry))
+        (record { edges = now (edges .entry); index = now (index .entry); work = now (work .entry) }))
+        r (now (edges .exit)) (now (index .exit)) (now (work .exit))
+        ⌝ }
+{
+    let layout = check_read(card, edges, index, work);
+    match layout {
+        Layout::Refused(refusal) => CardRead {
+            vertices: 0,
+            longest: 0,
+            answer: Answer::Refused(refusal),
+        },
+        Layout::Holds(vertices, longest, n) => {
+            edges::save(edges, &mut work[settle::SAVED..]);
+            card::fill(card, n, edges);
+            let answer = settle::settle(vertices, longest, n, edges, index, work);
+            if let Answer::Refused(refusal) = answer {
+                return CardRead {
+                    vertices: 0,
+                    longest: 0,
+                    answer: Answer::Refused(refusal),
+                };
+            }
+            CardRead {
+                vertices: vertices,
+                longest: longest,
+                answer: Answer::Accepted,
+            }
+        }
+    }
+}
