@@ -13,11 +13,12 @@ use Rattle.model.specs.Patterns.{code}
 use Rattle.model.specs.Order.{Names}
 use Rattle.model.specs.Entries.{entryOf, IsEntry, entries}
 use Rattle.model.specs.Query.{sideOf, ownerOf, hubOf}
+use Rattle.model.specs.Renumber.{Renumbers, translate}
 use Rattle.model.proofs.Lists.{getD-in, in-getD}
 use Rattle.model.proofs.Patterns.{code-below}
 use Rattle.model.proofs.Ranks.{names-length}
 use Rattle.model.proofs.Entries.{entries-in, entries-out}
-use Rattle.model.proofs.Renumber.{Renumbers, translate, entry-fields, entry-there, entry-back}
+use Rattle.model.proofs.Renumber.{entry-fields, entry-there, entry-back}
 use Rattle.model.proofs.Counting.{index-is, more-entries}
 use Rattle.sort.specs.Order.{Distinct, Sorts}
 use Rattle.output.specs.Output.{Translatable, Written}

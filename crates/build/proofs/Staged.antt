@@ -10,7 +10,7 @@ use Rattle.model.specs.Lists.{_∈_, upTo}
 use Rattle.model.specs.Limits.{mostVertices, mostLabel, mostLongest, leastWork}
 use Rattle.model.specs.Edges.{edge?, fromOf, labelOf}
 use Rattle.model.specs.Entries.{IsEntry}
-use Rattle.model.proofs.Suffixes.{Beyond}
+use Rattle.model.specs.Suffixes.{Beyond}
 use Rattle.model.proofs.Tests.{test-yields}
 use Rattle.model.proofs.Edges.{test-edge}
 use Rattle.edges.specs.Slots.{Starts}

@@ -6,7 +6,7 @@ use native.Mathlib.Omega.{arith}
 use lib.ListN.{length, getD, take, drop, length-append, length-drop, length-map, List·getD-append}
 use lib.Seq.{getD-take, take-at, drop-at, length-take-le}
 use Rattle.model.specs.Limits.{leastWork}
-use Rattle.model.proofs.Renumber.{translate}
+use Rattle.model.specs.Renumber.{translate}
 use Rattle.sort.specs.Order.{Distinct, Narrow}
 use Rattle.output.specs.Output.{Translatable, Written}
 use Rattle.build.specs.Parts.{stagedList, Writable, Writes}

@@ -5,7 +5,7 @@ use lib.ListN.{length, take, drop}
 use Rattle.model.specs.Lists.{upTo}
 use Rattle.model.specs.Limits.{mostLongest, leastWork}
 use Rattle.model.specs.Entries.{IsEntry}
-use Rattle.model.proofs.Renumber.{Renumbers, translate}
+use Rattle.model.specs.Renumber.{Renumbers, translate}
 use Rattle.renumber.specs.Ranked.{Ordered}
 use Rattle.sort.specs.Order.{Distinct, Narrow}
 use Rattle.output.specs.Output.{Translatable, Written}

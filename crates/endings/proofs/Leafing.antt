@@ -10,10 +10,12 @@ use lib.Seq.{take-all}
 use Rattle.model.specs.Lists.{_∈_}
 use Rattle.model.specs.Limits.{mostVertices, mostLongest, mostLabel, leastWork, hubUnit}
 use Rattle.model.specs.Patterns.{Keyed, Pattern, own?, code}
+use Rattle.model.specs.Hubs.{Picked}
+use Rattle.model.specs.Suffixes.{With, Leaf, Some}
 use Rattle.model.proofs.Tests.{test-yields, test-fails}
 use Rattle.model.proofs.Patterns.{test-own, code-below, keyed-up}
-use Rattle.model.proofs.Hubs.{Picked, picked-as}
-use Rattle.model.proofs.Suffixes.{With, Leaf, Some, some-none, some-more, leaves-apart}
+use Rattle.model.proofs.Hubs.{picked-as}
+use Rattle.model.proofs.Suffixes.{some-none, some-more, leaves-apart}
 use Rattle.rows.specs.Rows.{On, Next, Step}
 use Rattle.rows.proofs.Rows.{next-none}
 use Rattle.steps.specs.Steps.{Trail}

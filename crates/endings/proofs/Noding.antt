@@ -8,7 +8,8 @@ use native.Mathlib.Nat.{le-refl}
 use lib.ListN.{length, getD}
 use Rattle.model.specs.Lists.{_∈_}
 use Rattle.model.specs.Limits.{mostVertices, mostLabel, mostLongest, leastWork}
-use Rattle.model.proofs.Suffixes.{Beyond, Leaf, Branch, Some, some-none, some-more, beyond-parts, beyond-long, beyond-none, branches-apart, parts-apart}
+use Rattle.model.specs.Suffixes.{Beyond, Leaf, Branch, Some}
+use Rattle.model.proofs.Suffixes.{some-none, some-more, beyond-parts, beyond-long, beyond-none, branches-apart, parts-apart}
 use Rattle.rows.specs.Rows.{cell, On, Next, Step}
 use Rattle.rows.proofs.Rows.{same-row, next-none}
 use Rattle.steps.specs.Steps.{Trail}

@@ -14,12 +14,14 @@ use Rattle.model.specs.Edges.{Graph, edge?, edgeNumber}
 use Rattle.model.specs.Patterns.{Pattern, code}
 use Rattle.model.specs.Walks.{Spells, Runs, once, more}
 use Rattle.model.specs.Entries.{IsEntry, entryOf}
+use Rattle.model.specs.Hubs.{Picked}
+use Rattle.model.specs.Suffixes.{With, Beyond}
 use Rattle.model.proofs.Tests.{test-yields}
 use Rattle.model.proofs.Edges.{test-edge, edge-fields}
 use Rattle.model.proofs.Walks.{runs-to}
 use Rattle.model.proofs.Patterns.{code-below, code-inj}
-use Rattle.model.proofs.Hubs.{Picked, picked-as, pattern-picked, entry-pattern, OfPattern, runs-from}
-use Rattle.model.proofs.Suffixes.{With, Beyond, all-beyond}
+use Rattle.model.proofs.Hubs.{picked-as, pattern-picked, entry-pattern, OfPattern, runs-from}
+use Rattle.model.proofs.Suffixes.{all-beyond}
 use Rattle.steps.specs.Steps.{Trail}
 use Rattle.steps.proofs.Trails.{trail-cut, trail-to, trail-spells, spells-trail}
 use Rattle.closure.specs.Closing.{Plus, one}

@@ -7,8 +7,8 @@ use lib.ListN.{length, getD, drop}
 use Rattle.model.specs.Lists.{_∈_}
 use Rattle.model.specs.Limits.{mostVertices, mostLabel, mostLongest, leastWork}
 use Rattle.model.specs.Patterns.{code}
-use Rattle.model.proofs.Hubs.{Picked}
-use Rattle.model.proofs.Suffixes.{Beyond, Leaf, Some}
+use Rattle.model.specs.Hubs.{Picked}
+use Rattle.model.specs.Suffixes.{Beyond, Leaf, Some}
 use Rattle.rows.specs.Rows.{On, Step}
 use Rattle.rows.specs.Room.{parentRows, childRows, rootRow}
 use Rattle.steps.specs.Steps.{Ready, Trail, Sourced}

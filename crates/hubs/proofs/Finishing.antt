@@ -6,7 +6,7 @@ use Prim.Native.Nat.{ℕ, _+_, _*_, _/_, _≤_, _<_}
 use native.Mathlib.Omega.{arith}
 use lib.ListN.{length, getD}
 use Rattle.model.specs.Limits.{mostVertices, leastWork}
-use Rattle.model.proofs.Hubs.{Picked}
+use Rattle.model.specs.Hubs.{Picked}
 use Rattle.rows.specs.Rows.{cell, On, Step}
 use Rattle.rows.specs.Room.{tempRows}
 use Rattle.rows.proofs.Rows.{same-row}

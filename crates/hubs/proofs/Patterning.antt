@@ -7,7 +7,8 @@ use native.Mathlib.Omega.{arith}
 use lib.ListN.{length, getD}
 use Rattle.model.specs.Limits.{mostVertices, leastWork, hubUnit}
 use Rattle.model.specs.Entries.{entryOf}
-use Rattle.model.proofs.Hubs.{Picked, picked-as}
+use Rattle.model.specs.Hubs.{Picked}
+use Rattle.model.proofs.Hubs.{picked-as}
 use Rattle.rows.specs.Rows.{cell, On, Step}
 use Rattle.rows.specs.Room.{endsRow, parentRows, tempRows}
 use Rattle.rows.proofs.Rows.{same-row}

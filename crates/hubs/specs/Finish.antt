@@ -4,7 +4,7 @@ use mathlib.Core.List.{List}
 use Prim.Native.Nat.{ℕ, _+_, _/_, _≤_, _<_}
 use lib.ListN.{length, getD}
 use Rattle.model.specs.Limits.{mostVertices, leastWork, hubUnit}
-use Rattle.model.proofs.Hubs.{Picked}
+use Rattle.model.specs.Hubs.{Picked}
 use Rattle.rows.specs.Rows.{On, Step}
 use Rattle.rows.specs.Room.{childRows, tempRows, openRow, todoRow, pickedRow}
 use Rattle.closure.specs.Closing.{Plus}

@@ -3,7 +3,7 @@ use mathlib.Core.List.{List}
 use Prim.Native.Nat.{ℕ, _+_, _≤_, _<_}
 use lib.ListN.{length}
 use Rattle.model.specs.Limits.{leastWork, hubUnit}
-use Rattle.model.proofs.Hubs.{Picked}
+use Rattle.model.specs.Hubs.{Picked}
 use Rattle.rows.specs.Rows.{Step}
 use Rattle.closure.specs.Closing.{Plus}
 use Rattle.staging.specs.Stage.{Outcome}

@@ -12,7 +12,8 @@ use Rattle.model.specs.Edges.{Graph}
 use Rattle.model.specs.Patterns.{Pattern, code}
 use Rattle.model.specs.Walks.{Edge, Spells, here, edge, Runs, once, more, Stop, Between}
 use Rattle.model.specs.Order.{rank, Names}
-use Rattle.model.specs.Entries.{Earliest, entryOf, outEntry, inEntry, Asked, IsEntry}
+use Rattle.model.specs.Entries.{Earliest, outEntry, inEntry, Asked, IsEntry}
+use Rattle.model.specs.Hubs.{Picked}
 use Rattle.model.proofs.Lists.{up-to, below, rising-from, sorted-imp}
 use Rattle.model.proofs.Walks.{stop-iff, stop-start, stop-end, runs-to}
 use Rattle.model.proofs.Order.{rank-here, rank-there}
@@ -83,16 +84,6 @@ rank-own n v h = omega (arith, rank-from 0 n v (omega arith) (omega arith))
 
 pub own-names : (n : ℕ) → Names n (upTo n)
 own-names n = record { each = λ v h. up-to h; only = λ v m. below m; once = sorted-imp (λ a b h e. omega arith) (rising-from 0 n) }
-
--- e is the entry of an owner and a hub on one side, by a relation from hub to owner: the owner comes no earlier than the hub (on side 1,
--- later), and no vertex earlier than the hub stands between the two
-pub record Picked (R : ℕ → ℕ → Type 0) (side c e : ℕ) : Type 0 where
-  pub hub : ℕ
-  pub owner : ℕ
-  pub related : R hub owner
-  pub late : hub + side ≤ owner
-  pub alone : (v : ℕ) → v < hub → R hub v → R v owner → ⊥
-  pub is : e ≡ entryOf side owner hub c
 
 pub picked-as : {R R′ : ℕ → ℕ → Type 0} {side c e : ℕ} → ((a b : ℕ) → R a b → R′ a b) → ((a b : ℕ) → R′ a b → R a b) → Picked R side c e → Picked R′ side c e
 picked-as f b p = record {

@@ -8,25 +8,17 @@ use native.Mathlib.Omega.{arith}
 use lib.ListN.{getD}
 use Rattle.model.specs.Lists.{_∈_, upTo}
 use Rattle.model.specs.Limits.{hubUnit, ownerUnit, sideUnit, mostVertices, mostLabel}
-use Rattle.model.specs.Edges.{Graph, Small, edgeNumber}
+use Rattle.model.specs.Edges.{Graph, Small}
 use Rattle.model.specs.Patterns.{Keyed, code}
 use Rattle.model.specs.Walks.{Spells, here, edge, Runs, once, more, Stop, Between}
 use Rattle.model.specs.Order.{rank, Names}
 use Rattle.model.specs.Entries.{Earliest, entryOf, outEntry, inEntry, Asked, IsEntry}
 use Rattle.model.specs.Query.{sideOf, ownerOf, hubOf, codeOf}
+use Rattle.model.specs.Renumber.{Renumbers, translate}
 use Rattle.model.proofs.Walks.{stop-iff, stop-to, runs-to}
 use Rattle.model.proofs.Patterns.{code-below}
 use Rattle.model.proofs.Ranks.{rank-at, rank-small, vertex-small, at-rank}
 use Rattle.model.proofs.Hubs.{rank-own}
-
--- the edges, with both ends replaced by their ranks. (With a label of 16 or more, an edge number would have a second reading.)
-pub record Renumbers (n : ℕ) (order edges edges′ : List ℕ) : Type 0 where
-  pub there : (a c b : ℕ) → a < n → c ≤ mostLabel → b < n → edgeNumber a c b ∈ edges → edgeNumber (rank order a) c (rank order b) ∈ edges′
-  pub back : (i c j : ℕ) → i < n → c ≤ mostLabel → j < n → edgeNumber i c j ∈ edges′ → edgeNumber (getD order i 0) c (getD order j 0) ∈ edges
-
--- an entry of the renumbered graph with its owner and hub put back
-abbrev pub translate : List ℕ → ℕ → ℕ
-translate order x = entryOf (sideOf x) (getD order (ownerOf x) 0) (getD order (hubOf x) 0) (codeOf x)
 
 -- the fields of an entry number
 pub entry-fields : (side a b c : ℕ) → a < 256 → b < 256 → c < hubUnit

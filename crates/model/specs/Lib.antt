@@ -8,3 +8,6 @@ pub mod Levels
 pub mod Entries
 pub mod Query
 pub mod Replies
+pub mod Hubs
+pub mod Suffixes
+pub mod Renumber

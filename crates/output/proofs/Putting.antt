@@ -10,9 +10,10 @@ use Rattle.model.specs.Limits.{mostVertices}
 use Rattle.model.specs.Order.{rank, Names}
 use Rattle.model.specs.Entries.{entryOf}
 use Rattle.model.specs.Query.{sideOf, ownerOf, hubOf, codeOf}
+use Rattle.model.specs.Renumber.{translate}
 use Rattle.model.proofs.Lists.{getD-in}
 use Rattle.model.proofs.Ranks.{rank-at, names-length}
-use Rattle.model.proofs.Renumber.{translate, entry-fields}
+use Rattle.model.proofs.Renumber.{entry-fields}
 use Rattle.sort.specs.Order.{Distinct, Narrow}
 use Rattle.edges.proofs.Mix.{Mixed, front-none, front-turn}
 use Rattle.output.specs.Output.{Translatable}

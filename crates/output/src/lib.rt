@@ -4,7 +4,7 @@ ghost use mathlib.Core.List.{map};
 ghost use Prim.Native.Nat.{_≤_, _<_};
 ghost use lib.ListN.{length};
 ghost use Rattle.model.specs.Query.{sideOf, ownerOf, hubOf};
-ghost use Rattle.model.proofs.Renumber.{translate};
+ghost use Rattle.model.specs.Renumber.{translate};
 ghost use Rattle.sort.specs.Order.{Distinct, Narrow};
 ghost use Rattle.output.specs.Output.{Translatable, Written};
 

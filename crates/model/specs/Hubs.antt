@@ -1,0 +1,14 @@
+-- The entries of one pattern by their hubs, over vertices in their own order.
+use mathlib.Core.Path.{_≡_}
+use Prim.Native.Nat.{ℕ, _+_, _≤_, _<_}
+use Rattle.model.specs.Entries.{entryOf}
+
+-- e is the entry of an owner and a hub on one side, by a relation from hub to owner: the owner comes no earlier than the hub (on side 1,
+-- later), and no vertex earlier than the hub stands between the two
+pub record Picked (R : ℕ → ℕ → Type 0) (side c e : ℕ) : Type 0 where
+  pub hub : ℕ
+  pub owner : ℕ
+  pub related : R hub owner
+  pub late : hub + side ≤ owner
+  pub alone : (v : ℕ) → v < hub → R hub v → R v owner → ⊥
+  pub is : e ≡ entryOf side owner hub c
