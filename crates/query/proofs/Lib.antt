@@ -1,4 +1,5 @@
 pub mod Codes
+pub mod Limits
 pub mod Scanning
 pub mod Halving
 pub mod Joining

@@ -2,3 +2,4 @@ pub mod Memory
 pub mod Codes
 pub mod Parts
 pub mod Call
+pub mod Scan

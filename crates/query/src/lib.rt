@@ -9,11 +9,12 @@ ghost use Rattle.model.specs.Lists.{Rising, mem?};
 ghost use Rattle.model.specs.Limits.{mostLongest};
 ghost use Rattle.model.specs.Edges.{zeros?, label?};
 ghost use Rattle.model.specs.Patterns.{Keyed};
-ghost use Rattle.model.specs.Query.{code?, entry?};
+ghost use Rattle.model.specs.Query.{code?};
 ghost use Rattle.model.specs.Replies.{answeredOf};
 ghost use Rattle.calls.specs.Query.{queryCall};
 ghost use Rattle.query.specs.Memory.{scanOf, Says};
 ghost use Rattle.query.specs.Codes.{repeats?};
+ghost use Rattle.query.specs.Scan.{Seen, Looks, FieldEnd, Within, Limits};
 ghost use Rattle.query.specs.Parts.{Bracket, Listed, Joins};
 ghost use Rattle.query.specs.Call.{Checks};
 
@@ -82,20 +83,60 @@ pub fn is_code(longest: u32, code: u64) -> bool
     false
 }
 
-// Whether x is the number of an entry of the graph.
-pub fn is_entry(vertices: u32, longest: u32, x: u64) -> bool
-    ensures { λ r. ⌜ r ≡ entry? vertices longest x ⌝ }
+// Whether a code is as is_code says. A bit of `seen` is set for each code that was found to be one, and spares the test.
+fn is_seen_code(longest: u32, code: u64, seen: &mut [u64]) -> bool
+    requires { ⌜ (code < 2 ^ 16) × Seen longest (now seen) ⌝ }
+    ensures { λ r. ⌜ Looks longest code (now (seen .exit)) r ⌝ }
 {
-    if 2 <= x / SIDE {
-        return false;
+    let at = (code / 64) as usize;
+    let s = code % 64;
+    if (seen[at] >> s) % 2 == 1 {
+        return true;
     }
-    if vertices as u64 <= x / OWNER % 256 {
-        return false;
+    if is_code(longest, code) {
+        seen[at] = seen[at] | (1 << s);
+        return true;
     }
-    if vertices as u64 <= x / HUB % 256 {
-        return false;
+    false
+}
+
+// How many of the 256 numbers that a field holds are vertices.
+fn field_end(vertices: u32) -> u64
+    ensures { λ r. ⌜ FieldEnd vertices r ⌝ }
+{
+    if vertices < 256 {
+        return vertices as u64;
     }
-    is_code(longest, x % HUB)
+    256
+}
+
+// The end of the numbers from x on with the side and owner of x and a hub of the graph, or 0 where x has no such fields.
+fn limit(vertices: u32, x: u64) -> u64
+    ensures { λ r. ⌜ Limits vertices x r ⌝ }
+{
+    let n = field_end(vertices);
+    let owner = x / OWNER;
+    if 512 <= owner {
+        return 0;
+    }
+    if n <= owner % 256 {
+        return 0;
+    }
+    if n <= x / HUB % 256 {
+        return 0;
+    }
+    owner * OWNER + n * HUB
+}
+
+// The same, where it is known already for numbers below `end`.
+fn reach(vertices: u32, x: u64, end: u64) -> u64
+    requires { ⌜ Within vertices x end ⌝ }
+    ensures { λ r. ⌜ Limits vertices x r ⌝ }
+{
+    if x < end {
+        return end;
+    }
+    limit(vertices, x)
 }
 
 fn all_zero(s: &[u64]) -> bool
@@ -111,12 +152,14 @@ fn all_zero(s: &[u64]) -> bool
     true
 }
 
-// Check 12, in one pass.
+// Check 12, in one pass. From the last entry to `end`, side, owner and hub are right.
 pub fn scan(vertices: u32, longest: u32, index: &[u64]) -> Scanned
     ensures { λ r. ⌜ r ≡ scanOf vertices longest (now (index .entry)) ⌝ }
 {
+    let mut seen = [0u64; 1024];
     let mut i = 0;
     let mut prev: u64 = 0;
+    let mut end: u64 = 0;
     while i < index.len() {
         let x = index[i];
         if x == 0 {
@@ -129,7 +172,11 @@ pub fn scan(vertices: u32, longest: u32, index: &[u64]) -> Scanned
         if x <= prev {
             return Scanned::Invalid;
         }
-        if is_entry(vertices, longest, x) {
+        end = reach(vertices, x, end);
+        if end <= x {
+            return Scanned::Invalid;
+        }
+        if is_seen_code(longest, x % HUB, &mut seen) {
             prev = x;
             i += 1;
         } else {

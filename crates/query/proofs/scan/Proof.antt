@@ -1,4 +1,5 @@
--- `query::scan` meets its contract. The invariant: from slot i on, with the last entry passed, the memory says what all of it says.
+-- `query::scan` meets its contract. The invariant: from slot i on, with the last entry passed, the memory says what all of it says; the codes
+-- seen are codes, and up to `end` the other fields are right.
 use mathlib.Core.Path.{_≡_, sym, _∙_}
 use mathlib.Core.Bool.{true, false}
 use Prim.Native.Nat.{_≤_, _-_}
@@ -6,18 +7,22 @@ use native.Mathlib.Omega.{arith}
 use borrow.Author.Needs.{needs}
 use lib.ListN.{length, drop}
 use Rattle.query.specs.Memory.{scanOf}
+use Rattle.query.specs.Scan.{Seen, Within}
 use Rattle.query.proofs.Scanning.{scanFrom, scan-start, scan-zero, scan-low, scan-other, scan-more, scan-end}
+use Rattle.query.proofs.Limits.{seen-none, within-later, placed-entry}
 use Rattle.query.proofs.scan.Statement.{statement}
 use Rattle.query.proofs.scan.Tie as tie
 
 abbrev Inv-loop : tie.InvT-loop
-Inv-loop vertices longest index i₀ prev₀ i prev = (i ≤ length index) × (scanFrom vertices longest prev i (drop i index) ≡ scanOf vertices longest index)
+Inv-loop vertices longest index seen₀ i₀ prev₀ end₀ seen i prev end =
+    (i ≤ length index)
+    × ((scanFrom vertices longest prev i (drop i index) ≡ scanOf vertices longest index) × (Seen longest seen × Within vertices prev end))
 
 abbrev μ-loop : tie.MeasureT-loop
-μ-loop vertices longest index i₀ prev₀ i prev = length index - i
+μ-loop vertices longest index seen₀ i₀ prev₀ end₀ seen i prev end = length index - i
 
 loop-holds : tie.Need-loop-holds Inv-loop μ-loop
-loop-holds c = (omega arith, scan-start _ _ _)
+loop-holds c = (omega arith, (scan-start _ _ _, (seen-none _, record { at = λ y l h. absurd (omega arith) })))
 
 mul-x : tie.Need-mul-x Inv-loop μ-loop
 mul-x c = search needs
@@ -44,21 +49,34 @@ returns : tie.Need-returns Inv-loop μ-loop
 returns c =
     let t = c .before .before .before .before .before in
     let z = sym (c .before .all-zero .ensures) ∙ c .if2 .taken in
-    sym (scan-zero _ _ _ _ _ (t .loop-test .taken) (c .before .before .before .if1 .taken) true z) ∙ t .before .loop .inv .1
+    sym (scan-zero _ _ _ _ _ (t .loop-test .taken) (c .before .before .before .if1 .taken) true z) ∙ t .before .loop .inv .1 .0
 
 returns-2 : tie.Need-returns-2 Inv-loop μ-loop
 returns-2 c =
     let t = c .before .before .before .before .before in
     let z = sym (c .before .all-zero .ensures) ∙ c .if2 .left in
-    sym (scan-zero _ _ _ _ _ (t .loop-test .taken) (c .before .before .before .if1 .taken) false z) ∙ t .before .loop .inv .1
+    sym (scan-zero _ _ _ _ _ (t .loop-test .taken) (c .before .before .before .if1 .taken) false z) ∙ t .before .loop .inv .1 .0
 
 returns-3 : tie.Need-returns-3 Inv-loop μ-loop
 returns-3 c =
     let t = c .before .before .before in
-    sym (sym (t .before .loop .inv .1) ∙ scan-low _ _ _ _ _ (t .loop-test .taken) (c .before .if1 .left) (omega (arith, c .if3 .taken)))
+    sym (sym (t .before .loop .inv .1 .0) ∙ scan-low _ _ _ _ _ (t .loop-test .taken) (c .before .if1 .left) (omega (arith, c .if3 .taken)))
 
-is-entry-requires : tie.Need-is-entry-requires Inv-loop μ-loop
-is-entry-requires c κs = search needs
+reach-requires : tie.Need-reach-requires Inv-loop μ-loop
+reach-requires c κs = within-later (c .before .before .before .before .loop .inv .1 .1 .1) (c .if3 .left)
+
+returns-4 : tie.Need-returns-4 Inv-loop μ-loop
+returns-4 c =
+    let n = c .before .before in
+    let t = n .before .before .before in
+    let e = c .before .reach .ensures .outside (c .if4 .taken) _ in
+    sym (scan-other _ _ _ _ _ (t .loop-test .taken) (n .before .if1 .left) (n .if3 .left) e) ∙ t .before .loop .inv .1 .0
+
+slice-aggregate-is-seen-code : tie.Need-slice-aggregate-is-seen-code Inv-loop μ-loop
+slice-aggregate-is-seen-code c = search needs
+
+is-seen-code-requires : tie.Need-is-seen-code-requires Inv-loop μ-loop
+is-seen-code-requires c κs = (omega arith, c .before .before .before .before .before .before .before .loop .inv .1 .1 .0)
 
 add-i : tie.Need-add-i Inv-loop μ-loop
 add-i c = search needs
@@ -68,20 +86,26 @@ loop-less c = search needs
 
 loop-again : tie.Need-loop-again Inv-loop μ-loop
 loop-again c =
-    let t = c .before .before .before .before .before in
-    let e = sym (c .before .is-entry .ensures) ∙ c .if4 .taken in
-    let n = c .before .before in
-    (omega arith, scan-more _ _ _ _ _ (t .loop-test .taken) (n .before .if1 .left) (n .if3 .left) e ∙ t .before .loop .inv .1)
-
-returns-4 : tie.Need-returns-4 Inv-loop μ-loop
-returns-4 c =
-    let t = c .before .before .before .before .before in
-    let e = sym (c .before .is-entry .ensures) ∙ c .if4 .left in
-    let n = c .before .before in
-    sym (scan-other _ _ _ _ _ (t .loop-test .taken) (n .before .if1 .left) (n .if3 .left) e) ∙ t .before .loop .inv .1
+    let r = c .before .before .before .before .before in
+    let n = r .before in
+    let t = n .before .before .before in
+    let seen = c .before .before .is-seen-code .ensures in
+    let within = r .reach .ensures .within in
+    let e = placed-entry (within .at _ (omega arith) (c .before .before .before .before .if4 .left)) _ (sym (seen .is) ∙ c .if5 .taken) in
+    (omega arith, (scan-more _ _ _ _ _ (t .loop-test .taken) (n .before .if1 .left) (n .if3 .left) e ∙ t .before .loop .inv .1 .0, (seen .seen, within)))
 
 returns-5 : tie.Need-returns-5 Inv-loop μ-loop
-returns-5 c = sym (scan-end _ _ _ _ _ (c .loop-test .left)) ∙ c .before .loop .inv .1
+returns-5 c =
+    let r = c .before .before .before .before .before in
+    let n = r .before in
+    let t = n .before .before .before in
+    let seen = c .before .before .is-seen-code .ensures in
+    let within = r .reach .ensures .within in
+    let e = placed-entry (within .at _ (omega arith) (c .before .before .before .before .if4 .left)) _ (sym (seen .is) ∙ c .if5 .left) in
+    sym (scan-other _ _ _ _ _ (t .loop-test .taken) (n .before .if1 .left) (n .if3 .left) e) ∙ t .before .loop .inv .1 .0
+
+returns-6 : tie.Need-returns-6 Inv-loop μ-loop
+returns-6 c = sym (scan-end _ _ _ _ _ (c .loop-test .left)) ∙ c .before .loop .inv .1 .0
 
 pub scan-spec : {M : Type 1} → statement M
 scan-spec =
@@ -100,9 +124,12 @@ scan-spec =
     returns
     returns-2
     returns-3
-    is-entry-requires
+    reach-requires
+    returns-4
+    slice-aggregate-is-seen-code
+    is-seen-code-requires
     add-i
     loop-less
     loop-again
-    returns-4
-    returns-5)
+    returns-5
+    returns-6)
