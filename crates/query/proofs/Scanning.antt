@@ -11,13 +11,9 @@ use lib.Seq.{drop-cons, take-all}
 use borrow.Author.Tests.{eq-eqb, ne-eqb, lt-ltb, le-ltb}
 use Rattle.model.specs.Edges.{zeros?, standing}
 use Rattle.model.specs.Query.{entry?, risingEntries?, indexMemory?}
-use Rattle.query.specs.Memory.{scanOf}
+use Rattle.query.specs.Memory.{scanOf, scanFrom}
 use Rattle.query.specs.declared.Scanned.{Scanned}
 use Rattle.query.specs.declared.Scanned.the-variants.{Entries, Invalid}
-
--- what check 12 finds where i entries stand before s, the last of them prev
-unfoldable pub scanFrom : ℕ → ℕ → ℕ → ℕ → List ℕ → Scanned
-scanFrom vertices longest prev i s = cond (risingEntries? vertices longest prev s) (Entries (i + length (standing s))) Invalid
 
 module _ (vertices longest prev : ℕ) (s : List ℕ) (i : ℕ) where
   -- b is what `all_zero(&s[i..])` returns

@@ -2,18 +2,22 @@
 use mathlib.Core.Path.{_≡_}
 use mathlib.Core.Bool.{Bool, true, cond}
 use mathlib.Core.List.{List}
-use Prim.Native.Nat.{ℕ, _≤_, _<_}
+use Prim.Native.Nat.{ℕ, _+_, _≤_, _<_}
 use lib.ListN.{length}
 use Rattle.model.specs.Lists.{_∈_, Rising}
 use Rattle.model.specs.Limits.{mostVertices}
 use Rattle.model.specs.Edges.{standing}
-use Rattle.model.specs.Query.{entry?, indexMemory?, answers?}
+use Rattle.model.specs.Query.{entry?, risingEntries?, indexMemory?, answers?}
 use Rattle.query.specs.declared.Scanned.{Scanned}
 use Rattle.query.specs.declared.Scanned.the-variants.{Entries, Invalid}
 
 -- check 12: the number of entries, or that this is no index memory of the graph
 unfoldable pub scanOf : ℕ → ℕ → List ℕ → Scanned
 scanOf vertices longest xs = cond (indexMemory? vertices longest xs) (Entries (length (standing xs))) Invalid
+
+-- what check 12 finds where i entries stand before s, the last of them prev
+unfoldable pub scanFrom : ℕ → ℕ → ℕ → ℕ → List ℕ → Scanned
+scanFrom vertices longest prev i s = cond (risingEntries? vertices longest prev s) (Entries (i + length (standing s))) Invalid
 
 -- rising entries of a graph
 pub record Indexed (vertices longest : ℕ) (index : List ℕ) : Type 0 where

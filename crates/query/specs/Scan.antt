@@ -3,7 +3,9 @@ use mathlib.Core.Path.{_≡_}
 use mathlib.Core.Bool.{Bool, true, false}
 use mathlib.Core.List.{List}
 use Prim.Native.Nat.{ℕ, _/_, _%_, _^_, _≤_, _<_}
-use lib.ListN.{length, getD}
+use lib.ListN.{length, getD, drop}
+use Rattle.query.specs.Memory.{scanFrom}
+use Rattle.query.specs.declared.Place.{Place}
 use Rattle.model.specs.Query.{sideOf, ownerOf, hubOf, code?, entry?}
 
 -- each bit that is set stands for a code
@@ -35,3 +37,12 @@ pub record Within (vertices x end : ℕ) : Type 0 where
 pub record Limits (vertices x end : ℕ) : Type 0 where
   pub within : Within vertices x end
   pub outside : end ≤ x → (longest : ℕ) → entry? vertices longest x ≡ false
+
+-- the slots from the place on, with the last entry before it, say what those from `from` on say, whatever graph the codes and `end` are of
+pub record Skims (index : List ℕ) (from prev end : ℕ) (seen : List ℕ) (r : Place) : Type 0 where
+  pub low : from ≤ r .at
+  pub high : r .at ≤ length index
+  pub rises : prev ≤ r .last
+  pub same :
+      (vertices longest : ℕ) → Seen longest seen → Within vertices prev end
+      → scanFrom vertices longest (r .last) (r .at) (drop (r .at) index) ≡ scanFrom vertices longest prev from (drop from index)

@@ -4,7 +4,8 @@ use model::QueryReply;
 use model::Refusal;
 ghost use mathlib.Core.Path.{_≡_};
 ghost use mathlib.Core.Bool.{Bool, _&&_};
-ghost use Prim.Native.Nat.{_<_, _^_};
+ghost use Prim.Native.Nat.{_≤_, _<_, _^_};
+ghost use lib.ListN.{length};
 ghost use Rattle.model.specs.Lists.{Rising, mem?};
 ghost use Rattle.model.specs.Limits.{mostLongest};
 ghost use Rattle.model.specs.Edges.{zeros?, label?};
@@ -14,7 +15,7 @@ ghost use Rattle.model.specs.Replies.{answeredOf};
 ghost use Rattle.calls.specs.Query.{queryCall};
 ghost use Rattle.query.specs.Memory.{scanOf, Says};
 ghost use Rattle.query.specs.Codes.{repeats?};
-ghost use Rattle.query.specs.Scan.{Seen, Looks, FieldEnd, Within, Limits};
+ghost use Rattle.query.specs.Scan.{Seen, Looks, FieldEnd, Within, Limits, Skims};
 ghost use Rattle.query.specs.Parts.{Bracket, Listed, Joins};
 ghost use Rattle.query.specs.Call.{Checks};
 
@@ -152,6 +153,38 @@ fn all_zero(s: &[u64]) -> bool
     true
 }
 
+// How far check 12 has come: a slot, and the last entry before it.
+struct Place {
+    at: usize,
+    last: u64,
+}
+
+// Goes on over the entries that rise, are below `end` and have a code that was seen. A loop of its own, as nearly all entries are such.
+fn skim(index: &[u64], from: usize, prev: u64, end: u64, seen: &[u64]) -> Place
+    requires { ⌜ (from ≤ length (now index)) × (length (now seen) ≡ 1024) ⌝ }
+    ensures { λ r. ⌜ Skims (now (index .entry)) from prev end (now (seen .entry)) r ⌝ }
+{
+    let mut i = from;
+    let mut last = prev;
+    while i < index.len() {
+        let x = index[i];
+        if x <= last {
+            return Place { at: i, last };
+        }
+        if end <= x {
+            return Place { at: i, last };
+        }
+        let code = x % HUB;
+        if (seen[(code / 64) as usize] >> (code % 64)) % 2 == 1 {
+            last = x;
+            i += 1;
+        } else {
+            return Place { at: i, last };
+        }
+    }
+    Place { at: i, last }
+}
+
 // Check 12, in one pass. From the last entry to `end`, side, owner and hub are right.
 pub fn scan(vertices: u32, longest: u32, index: &[u64]) -> Scanned
     ensures { λ r. ⌜ r ≡ scanOf vertices longest (now (index .entry)) ⌝ }
@@ -161,15 +194,21 @@ pub fn scan(vertices: u32, longest: u32, index: &[u64]) -> Scanned
     let mut prev: u64 = 0;
     let mut end: u64 = 0;
     while i < index.len() {
-        let x = index[i];
+        let place = skim(index, i, prev, end, &seen);
+        let at = place.at;
+        let passed = place.last;
+        if index.len() <= at {
+            return Scanned::Entries(at);
+        }
+        let x = index[at];
         if x == 0 {
-            if all_zero(&index[i..]) {
-                return Scanned::Entries(i);
+            if all_zero(&index[at..]) {
+                return Scanned::Entries(at);
             } else {
                 return Scanned::Invalid;
             }
         }
-        if x <= prev {
+        if x <= passed {
             return Scanned::Invalid;
         }
         end = reach(vertices, x, end);
@@ -178,7 +217,7 @@ pub fn scan(vertices: u32, longest: u32, index: &[u64]) -> Scanned
         }
         if is_seen_code(longest, x % HUB, &mut seen) {
             prev = x;
-            i += 1;
+            i = at + 1;
         } else {
             return Scanned::Invalid;
         }
