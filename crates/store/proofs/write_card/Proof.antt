@@ -1,0 +1,65 @@
+-- `store::write_card` meets its contract: a refusal leaves the output alone; else the card of the standing edges is written.
+use mathlib.Core.Path.{_≡_, sym}
+use native.Mathlib.Omega.{arith}
+use borrow.Author.Needs.{needs}
+use lib.Seq.{length-take-le}
+use Rattle.store.specs.Store.{numbers, Writes}
+use Rattle.store.proofs.CardOut.{write-stops, memory, writable, wrote}
+use Rattle.store.proofs.write_card.Statement.{statement}
+use Rattle.store.proofs.write_card.Tie as tie
+
+abbrev start : tie.After-known-told2 → tie.Start
+start c = c .before .before .before .before .before .before .before
+
+-- all checks have passed
+passed : (c : tie.After-known-told2) → Writes (numbers (start c .args .header)) (start c .args .edges .now) (start c .args .output .now) (c .before .writing2 .given .0 .0)
+passed c = rw (c .before .writing2 .given .1) at (c .before .before .before .check-write .ensures)
+
+check-write-requires : tie.Need-check-write-requires
+check-write-requires c κs = search needs
+
+enum-known-writing : tie.Need-enum-known-writing
+enum-known-writing c = search needs
+
+enum-known-writing-2 : tie.Need-enum-known-writing-2
+enum-known-writing-2 c = search needs
+
+slice-aggregate-write : tie.Need-slice-aggregate-write
+slice-aggregate-write c = sym (length-take-le _ (start (c .before) .args .edges .now) (memory (passed (c .before)) .within))
+
+write-requires : tie.Need-write-requires
+write-requires c κs = writable (passed (c .before .before))
+
+mul-t17 : tie.Need-mul-t17
+mul-t17 c = let s = memory (passed (c .before .before .before .before .before)) in omega (arith, s .within, s .slots)
+
+add-t18 : tie.Need-add-t18
+add-t18 c = let s = memory (passed (c .before .before .before .before .before)) in omega (arith, s .within, s .slots)
+
+same-length : tie.Need-same-length
+same-length c = search needs
+
+returns : tie.Need-returns
+returns c = write-stops _ _ _ (c .before .writing .given .0 .0) (rw (c .before .writing .given .1) at (c .before .before .before .check-write .ensures))
+
+same-length-2 : tie.Need-same-length-2
+same-length-2 c = search needs
+
+returns-2 : tie.Need-returns-2
+returns-2 c = wrote (passed (c .before .before .before .before .before)) (c .before .before .write .ensures)
+
+pub write-card-spec : {M : Type 1} → statement M
+write-card-spec =
+    tie.close
+    (tie.spec
+    check-write-requires
+    enum-known-writing
+    enum-known-writing-2
+    slice-aggregate-write
+    write-requires
+    mul-t17
+    add-t18
+    same-length
+    returns
+    same-length-2
+    returns-2)

@@ -1,0 +1,258 @@
+// The store as firmware sees it: every call of document 01, for all inputs. Opening, insertion (laying) and removal (lifting) are operations
+// of the header (record): each takes it and hands it back with the answer.
+use edges::Scanned;
+use model::Answer;
+use model::QueryReply;
+use model::Refusal;
+use model::SearchReply;
+use patterns::Folded;
+ghost use mathlib.Core.Path.{_≡_};
+ghost use mathlib.Core.List.{[]};
+ghost use Rattle.model.specs.Patterns.{foldedLength};
+ghost use Rattle.model.specs.Replies.{answeredOf, numberOf};
+ghost use Rattle.calls.specs.Change.{openCall, insertCall, removeCall};
+ghost use Rattle.calls.specs.Card.{readCall, writeCall};
+ghost use Rattle.calls.specs.Query.{queryCall};
+ghost use Rattle.calls.specs.Search.{searchCall, SearchMeets};
+ghost use Rattle.store.specs.Store.{numbers, Meets, Writings, WriteMeets};
+
+// Mark, version, places less one, k and leg count; each leg is 3 bytes behind them.
+const HEAD: usize = 9;
+
+// "The record holds the number of places and k."
+pub struct Header {
+    pub vertices: u32,
+    pub longest: u32,
+}
+
+// The header that a call hands back, and its answer.
+pub struct Changed {
+    pub header: Header,
+    pub answer: Answer,
+}
+
+// The length of a written card, or the refusal.
+pub enum Written {
+    Length(usize),
+    Refused(Refusal),
+}
+
+// How many edges stand that a card is written of, or the refusal.
+enum Writing {
+    Edges(usize),
+    Refused(Refusal),
+}
+
+impl Header {
+    // Opening. It is lent no work memory.
+    pub fn open(self, edges: &mut [u32], index: &mut [u64]) -> Changed
+        ensures { λ r. ⌜
+            Meets (openCall (numbers self) (record { edges = now (edges .entry); index = now (index .entry); work = [] }))
+            r (now (edges .exit)) (now (index .exit)) []
+            ⌝ }
+    {
+        let answer = changes::open(self.vertices, self.longest, edges, index);
+        Changed {
+            header: self,
+            answer: answer,
+        }
+    }
+
+    // Insertion (laying).
+    pub fn insert(
+        self,
+        from: u32,
+        label: u32,
+        to: u32,
+        edges: &mut [u32],
+        index: &mut [u64],
+        work: &mut [u64],
+    ) -> Changed
+        ensures { λ r. ⌜
+            Meets (insertCall (numbers self) from label to
+            (record { edges = now (edges .entry); index = now (index .entry); work = now (work .entry) }))
+            r (now (edges .exit)) (now (index .exit)) (now (work .exit))
+            ⌝ }
+    {
+        let answer = changes::insert(
+            self.vertices,
+            self.longest,
+            from,
+            label,
+            to,
+            edges,
+            index,
+            work,
+        );
+        Changed {
+            header: self,
+            answer: answer,
+        }
+    }
+
+    // Removal (lifting).
+    pub fn remove(
+        self,
+        from: u32,
+        label: u32,
+        to: u32,
+        edges: &mut [u32],
+        index: &mut [u64],
+        work: &mut [u64],
+    ) -> Changed
+        ensures { λ r. ⌜
+            Meets (removeCall (numbers self) from label to
+            (record { edges = now (edges .entry); index = now (index .entry); work = now (work .entry) }))
+            r (now (edges .exit)) (now (index .exit)) (now (work .exit))
+            ⌝ }
+    {
+        let answer = changes::remove(
+            self.vertices,
+            self.longest,
+            from,
+            label,
+            to,
+            edges,
+            index,
+            work,
+        );
+        Changed {
+            header: self,
+            answer: answer,
+        }
+    }
+}
+
+// Reads a layout card. The header of a refusal is all zero: no record.
+pub fn read_card(card: &[u8], edges: &mut [u32], index: &mut [u64], work: &mut [u64]) -> Changed
+    ensures { λ r. ⌜
+        Meets (readCall (now (card .entry))
+        (record { edges = now (edges .entry); index = now (index .entry); work = now (work .entry) }))
+        r (now (edges .exit)) (now (index .exit)) (now (work .exit))
+        ⌝ }
+{
+    let read = changes::read(card, edges, index, work);
+    let answer = read.answer;
+    Changed {
+        header: Header {
+            vertices: read.vertices,
+            longest: read.longest,
+        },
+        answer: answer,
+    }
+}
+
+// The checks of a card that is written: 1 2 3 17.
+fn check_write(vertices: u32, longest: u32, edges: &[u32], output: &[u8]) -> Writing
+    ensures { λ r. ⌜ Writings (record { vertices = vertices; longest = longest }) (now (edges .entry)) (now (output .entry)) r ⌝ }
+{
+    let header = checks::check_header(vertices, longest);
+    if let Answer::Refused(refusal) = header {
+        return Writing::Refused(refusal);
+    }
+    let scanned = edges::scan(vertices, edges);
+    let Scanned::Edges(n) = scanned else {
+        return Writing::Refused(Refusal::EdgeMemory);
+    };
+    if output.len() < HEAD + 3 * n {
+        return Writing::Refused(Refusal::CardOutput);
+    }
+    Writing::Edges(n)
+}
+
+// Writes the layout card to the front of the output, and returns its length.
+pub fn write_card(header: Header, edges: &[u32], output: &mut [u8]) -> Written
+    ensures { λ r. ⌜ WriteMeets (writeCall (numbers header) (now (edges .entry)) (now (output .entry))) r (now (output .exit)) ⌝ }
+{
+    let vertices = header.vertices;
+    let longest = header.longest;
+    let writing = check_write(vertices, longest, edges, output);
+    match writing {
+        Writing::Refused(refusal) => Written::Refused(refusal),
+        Writing::Edges(n) => {
+            card::write(vertices, longest, &edges[..n], output);
+            Written::Length(HEAD + 3 * n)
+        }
+    }
+}
+
+// The query (question).
+pub fn query(
+    header: Header,
+    start: u32,
+    destination: u32,
+    pattern: &[u8],
+    index: &[u64],
+) -> QueryReply
+    ensures { λ r. ⌜
+        answeredOf r ≡ queryCall (header .vertices) (header .longest) start destination (now (pattern .entry)) (now (index .entry))
+        ⌝ }
+{
+    query::query(
+        header.vertices,
+        header.longest,
+        start,
+        destination,
+        pattern,
+        index,
+    )
+}
+
+// The level search (plain check).
+pub fn level_search(
+    header: Header,
+    start: u32,
+    destination: u32,
+    pattern: &[u8],
+    level_limit: u32,
+    edges: &[u32],
+    work: &mut [u64],
+) -> SearchReply
+    ensures { λ r. ⌜
+        SearchMeets (searchCall (header .vertices) (header .longest) start destination (now (pattern .entry)) «level_limit»
+        (now (edges .entry)) (now (work .entry))) r (now (work .exit))
+        ⌝ }
+{
+    level_search::search(
+        header.vertices,
+        header.longest,
+        start,
+        destination,
+        pattern,
+        level_limit,
+        edges,
+        work,
+    )
+}
+
+// The length of a pattern's minimum repeat.
+pub fn minimum_repeat(pattern: &[u8]) -> Folded
+    ensures { λ r. ⌜ r .length ≡ foldedLength (now (pattern .entry)) ⌝ }
+{
+    patterns::minimum_repeat(pattern)
+}
+
+// Document 01's number of a refusal.
+pub fn refusal_number(refusal: Refusal) -> u32
+    ensures { λ r. ⌜ r ≡ numberOf refusal ⌝ }
+{
+    match refusal {
+        Refusal::Vertices => 1,
+        Refusal::Longest => 2,
+        Refusal::EdgeMemory => 3,
+        Refusal::WorkMemory => 4,
+        Refusal::EdgeEnd => 5,
+        Refusal::EdgeLabel => 6,
+        Refusal::EdgePresent => 7,
+        Refusal::EdgeAbsent => 8,
+        Refusal::EdgeSlots => 9,
+        Refusal::QueryEnd => 10,
+        Refusal::QueryPattern => 11,
+        Refusal::IndexMemory => 12,
+        Refusal::IndexSlots => 13,
+        Refusal::CardMark => 14,
+        Refusal::CardVersion => 15,
+        Refusal::CardEdges => 16,
+        Refusal::CardOutput => 17,
+    }
+}
