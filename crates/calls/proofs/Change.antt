@@ -1,11 +1,11 @@
 -- Laws of the changing calls: checks one after another, what a refusal leaves, and what settling comes to.
-use mathlib.Core.Path.{_≡_, refl, sym, ap, _∙_}
+use mathlib.Core.Path.{_≡_, refl, sym}
 use mathlib.Core.Bool.{Bool, true, false}
 use mathlib.Core.List.{List, [], _∷_, _++_}
 use Prim.Native.Nat.{ℕ, zero, suc, _+_, _≤_, _<_}
 use native.Mathlib.Decide.{decLt}
 use native.Mathlib.Omega.{arith}
-use lib.Dec.{T, leb}
+use lib.Dec.{T}
 use lib.ListN.{length}
 use Rattle.model.specs.Lists.{filled, zeroed}
 use Rattle.model.specs.Limits.{mostLabel, leastWork}
@@ -18,8 +18,8 @@ use Rattle.model.specs.declared.Answer.the-variants.{Accepted, Refused}
 use Rattle.model.specs.declared.Refusal.the-variants.{IndexSlots}
 use Rattle.model.proofs.Tests.{test-and, test-le, test-true, test-false, test-yields}
 use Rattle.model.proofs.Replies.{number-some}
-use Rattle.calls.specs.Checks.{vertices?, longest?, ends?, Check, firstRefusal}
-use Rattle.calls.specs.Change.{Header, graphOf, Memory, Handed, back, Change, changedWith, buildRoom?, Leaves, fits?, settle, openRefusal, openCall, changeChecks, changeRefusal, insertRefusal, insertCall, removeRefusal, removeCall}
+use Rattle.calls.specs.Checks.{Check, firstRefusal}
+use Rattle.calls.specs.Change.{Header, graphOf, Memory, Handed, back, Change, changedWith, Leaves, fits?, settle, openRefusal, openCall, changeChecks, changeRefusal, insertRefusal, insertCall, removeRefusal, removeCall}
 use Rattle.calls.proofs.Checks.{numbered?, Passed, done, also, passes, Header as Bounds, test-vertices, test-longest, test-ends}
 
 -- ---- checks, and then further ones

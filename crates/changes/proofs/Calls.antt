@@ -1,14 +1,13 @@
 -- From the checks of a call to the wanted edges, and from what settling leaves to what the call leaves.
-use mathlib.Core.Path.{_≡_, refl, sym, ap, _∙_}
+use mathlib.Core.Path.{_≡_, refl}
 use mathlib.Core.Logic.{⊎-elim}
 use mathlib.Core.Bool.{true}
 use mathlib.Core.List.{List}
-use Prim.Native.Nat.{ℕ, suc, _+_, _-_, _≤_, _<_}
+use Prim.Native.Nat.{ℕ, _+_, _-_}
 use native.Mathlib.Omega.{arith}
 use lib.ListN.{length}
-use Rattle.model.specs.Lists.{_∈_, zeroed}
+use Rattle.model.specs.Lists.{zeroed}
 use Rattle.model.specs.Edges.{edgeNumber, edge?, standing, insertEdge, removeEdge}
-use Rattle.model.specs.Limits.{mostEdges, leastWork, mostLabel}
 use Rattle.model.specs.Replies.{numberOf}
 use Rattle.model.specs.declared.Refusal.{Refusal}
 use Rattle.model.specs.declared.Answer.{Answer}
@@ -18,7 +17,7 @@ use Rattle.model.proofs.Tests.{test-true}
 use Rattle.edges.proofs.Memory.{length-insert, member-insert, rising-insert, length-remove, member-remove, rising-remove}
 use Rattle.calls.specs.Change.{Header, Memory, back, Leaves, settle, openRefusal, openCall, insertRefusal, insertCall, removeRefusal, removeCall}
 use Rattle.calls.proofs.Change.{Good, change-refused, change-accepted}
-use Rattle.named.specs.Named.{Passes, Places, Takes}
+use Rattle.named.specs.Named.{Places, Takes}
 use Rattle.named.proofs.Naming.{good, memory, places-absent, takes-present}
 use Rattle.changes.proofs.Trying.{Wanted}
 

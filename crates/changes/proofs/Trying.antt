@@ -12,7 +12,6 @@ use Rattle.model.specs.Edges.{edge?}
 use Rattle.model.specs.declared.Answer.{Answer}
 use Rattle.model.proofs.Lists.{in-getD}
 use Rattle.model.proofs.Memory.{length-filled}
-use Rattle.edges.specs.Memory.{Narrow}
 use Rattle.rows.specs.Room.{savedNumbers}
 use Rattle.calls.specs.Change.{Header, Memory, Handed, none, Leaves, settle}
 use Rattle.calls.proofs.Checks.{Header as Bounds}

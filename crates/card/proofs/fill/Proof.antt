@@ -46,7 +46,7 @@ loop-less c = search needs
 loop-again : tie.Need-loop-again Inv-loop μ-loop
 loop-again c =
     let at = c .before .before in
-    fill-turn (at .before .before .before .pre) (at .loop .inv) (c .before .loop-test .taken) (c .leg .ensures)
+    fill-turn (at .before .before .before .pre) (at .loop .inv) (omega (arith, c .before .loop-test .taken)) (c .leg .ensures)
 
 mul-clear-edges : tie.Need-mul-clear-edges Inv-loop μ-loop
 mul-clear-edges c = search needs

@@ -1,5 +1,5 @@
 -- `changes::check_read` meets its contract: the checks of the card, then 3, 9 and 4.
-use mathlib.Core.Path.{_≡_, sym, _∙_}
+use mathlib.Core.Path.{sym, _∙_}
 use native.Mathlib.Omega.{arith}
 use borrow.Author.Needs.{needs}
 use Rattle.card.specs.Card.{Passes}

@@ -1,7 +1,7 @@
 -- `changes::insert` meets its contract: a refusal leaves memory alone; else edge memory is saved, the insertion made and settled.
-use mathlib.Core.Path.{_≡_, sym, ap, _∙_}
+use mathlib.Core.Path.{_≡_, ap, _∙_}
 use mathlib.Core.List.{List}
-use Prim.Native.Nat.{ℕ, _+_, _-_, _≤_, _<_}
+use Prim.Native.Nat.{ℕ, _-_, _≤_}
 use native.Mathlib.Omega.{arith}
 use borrow.Author.Needs.{needs}
 use borrow.Rule.Slice.PartMut.{putMid, same-len-mid}
@@ -43,14 +43,14 @@ long c = omega (arith, insert-wanted (passed c) .room)
 abbrev checked : tie.After-slice-known5 → tie.After-known-told2
 checked c = c .before .before .before .before .before .before .before .before .before .before
 
-tried : (c : tie.After-slice-known5)
-    → Tried (wanted (checked c)) (memory (checked c)) (checked c .before .slot2 .given .0 .0 + 1) (c .before .before .insert .last .0)
+tried : (c : tie.After-slice-known5) {n : ℕ} → n ≡ length (wanted (checked c))
+    → Tried (wanted (checked c)) (memory (checked c)) n (c .before .before .insert .last .0)
     (putMid 2048 (length (memory (checked c) .work) - 2048) (memory (checked c) .work) (c .before .before .before .before .before .before .before .save .last .1 .0))
-tried c =
+tried c count =
     let save = c .before .before .before .before .before .before .before .save in
     let m = memory (checked c) in
     record {
-      count = insert-count (passed (checked c));
+      count = count;
       edges-are =
           c .before .before .insert .ensures
           ∙ ap (λ (x : ℕ). filled (length (m .edges)) (insertEdge x (standing (m .edges)))) (c .before .before .before .edge-number .ensures);
@@ -90,7 +90,9 @@ add-settle : tie.Need-add-settle
 add-settle c = omega (arith, passed (checked c) .place .room, insert-wanted (passed (checked c)) .few)
 
 settle-requires : tie.Need-settle-requires
-settle-requires c κs = settleable (insert-wanted (passed (checked (c .before .before .before)))) (tried (c .before .before .before))
+settle-requires c κs =
+    let p = passed (checked (c .before .before .before)) in
+    settleable (insert-wanted p) (tried (c .before .before .before) (omega (arith, insert-count p)))
 
 same-length : tie.Need-same-length
 same-length c = search needs
@@ -117,7 +119,8 @@ returns-2 : tie.Need-returns-2
 returns-2 c =
     let settle = c .before .before .before .before .before .before in
     let k = settle .before .before .before .before in
-    insert-leaves (passed (checked k)) (settled (insert-wanted (passed (checked k))) (tried k) (back (header (checked k))) (settle .settle .ensures))
+    let p = passed (checked k) in
+    insert-leaves p (settled (insert-wanted p) (tried k (insert-count p)) (back (header (checked k))) (settle .settle .ensures))
 
 pub insert-spec : {M : Type 1} → statement M
 insert-spec =

@@ -1,7 +1,7 @@
 -- `changes::remove` meets its contract: a refusal leaves memory alone; else edge memory is saved, the removal made and settled.
-use mathlib.Core.Path.{_≡_, sym, ap, _∙_}
+use mathlib.Core.Path.{_≡_, ap, _∙_}
 use mathlib.Core.List.{List}
-use Prim.Native.Nat.{ℕ, _+_, _-_, _≤_, _<_}
+use Prim.Native.Nat.{ℕ, _-_, _≤_}
 use native.Mathlib.Omega.{arith}
 use borrow.Author.Needs.{needs}
 use borrow.Rule.Slice.PartMut.{putMid, same-len-mid}
@@ -43,14 +43,14 @@ long c = omega (arith, remove-wanted (passed c) .room)
 abbrev checked : tie.After-slice-known5 → tie.After-known-told2
 checked c = c .before .before .before .before .before .before .before .before .before .before
 
-tried : (c : tie.After-slice-known5)
-    → Tried (wanted (checked c)) (memory (checked c)) (checked c .before .slot2 .given .0 .0 - 1) (c .before .before .remove .last .0)
+tried : (c : tie.After-slice-known5) {n : ℕ} → n ≡ length (wanted (checked c))
+    → Tried (wanted (checked c)) (memory (checked c)) n (c .before .before .remove .last .0)
     (putMid 2048 (length (memory (checked c) .work) - 2048) (memory (checked c) .work) (c .before .before .before .before .before .before .before .save .last .1 .0))
-tried c =
+tried c count =
     let save = c .before .before .before .before .before .before .before .save in
     let m = memory (checked c) in
     record {
-      count = remove-count (passed (checked c));
+      count = count;
       edges-are =
           c .before .before .remove .ensures
           ∙ ap (λ (x : ℕ). filled (length (m .edges)) (removeEdge x (standing (m .edges)))) (c .before .before .before .edge-number .ensures);
@@ -90,7 +90,9 @@ sub-settle : tie.Need-sub-settle
 sub-settle c = omega (arith, passed (checked c) .place .inside)
 
 settle-requires : tie.Need-settle-requires
-settle-requires c κs = settleable (remove-wanted (passed (checked (c .before .before .before)))) (tried (c .before .before .before))
+settle-requires c κs =
+    let p = passed (checked (c .before .before .before)) in
+    settleable (remove-wanted p) (tried (c .before .before .before) (omega (arith, remove-count p)))
 
 same-length : tie.Need-same-length
 same-length c = search needs
@@ -117,7 +119,8 @@ returns-2 : tie.Need-returns-2
 returns-2 c =
     let settle = c .before .before .before .before .before .before in
     let k = settle .before .before .before .before in
-    remove-leaves (passed (checked k)) (settled (remove-wanted (passed (checked k))) (tried k) (back (header (checked k))) (settle .settle .ensures))
+    let p = passed (checked k) in
+    remove-leaves p (settled (remove-wanted p) (tried k (remove-count p)) (back (header (checked k))) (settle .settle .ensures))
 
 pub remove-spec : {M : Type 1} → statement M
 remove-spec =

@@ -1,11 +1,10 @@
 -- `named::check_change` meets its contract: each return is the first check that does not pass, or all have passed.
 use mathlib.Core.Path.{_≡_, sym, ap, _∙_}
-use mathlib.Core.Bool.{true}
 use borrow.Author.Needs.{needs}
 use Rattle.model.specs.Replies.{answerOf}
 use Rattle.model.proofs.Replies.{number-some}
 use Rattle.edges.proofs.Memory.{Scans, scans, scans-none}
-use Rattle.calls.specs.Checks.{headerRefusal, ends?}
+use Rattle.calls.specs.Checks.{headerRefusal}
 use Rattle.calls.specs.Change.{changeRefusal}
 use Rattle.calls.proofs.Checks.{none, pass, stop, first-is, header-stop, header-pass}
 use Rattle.named.proofs.check_change.Statement.{statement}

@@ -1,5 +1,5 @@
 -- `store::write_card` meets its contract: a refusal leaves the output alone; else the card of the standing edges is written.
-use mathlib.Core.Path.{_≡_, sym}
+use mathlib.Core.Path.{sym}
 use native.Mathlib.Omega.{arith}
 use borrow.Author.Needs.{needs}
 use lib.Seq.{length-take-le}
