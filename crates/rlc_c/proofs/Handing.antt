@@ -1,0 +1,113 @@
+-- From the public calls to their C forms.
+use mathlib.Core.Path.{_≡_, refl, sym, ap, _∙_}
+use mathlib.Core.Bool.{Bool, true, false, cond}
+use mathlib.Core.List.{List, [], _∷_}
+use Prim.Native.Nat.{ℕ, _*_, _^_, _≤_, _<_}
+use native.Mathlib.Decide.{decLt}
+use native.Mathlib.Omega.{arith}
+use lib.Dec.{eqb}
+use lib.ListN.{length, drop, set}
+use Rattle.model.specs.Limits.{mostLongest}
+use Rattle.model.specs.Patterns.{keyed?, foldedLength, minRepeat}
+use Rattle.model.specs.Replies.{numberOf, answerOf, replyOf}
+use Rattle.model.specs.declared.Refusal.{Refusal}
+use Rattle.model.specs.declared.SearchReply.{SearchReply}
+use Rattle.model.specs.declared.Answer.{Answer}
+use Rattle.model.proofs.Tests.{test-true, test-false, test-eq, by-test}
+use Rattle.model.proofs.Patterns.{test-keyed, folded}
+use Rattle.model.proofs.Replies.{number-some}
+use Rattle.calls.specs.Change.{Header, Memory, Handed, back, none, Change, numbersOf, Leaves}
+use Rattle.calls.specs.Search.{Searched, SearchMeets}
+use Rattle.calls.specs.Card.{headBytes, headerOf, edgesOf, readRefusal, readCall, Written as CardWritten}
+use Rattle.calls.proofs.Settling.{Result, settledChange, settled}
+use Rattle.store.specs.Store.{wroteOf, WriteMeets}
+use Rattle.store.specs.declared.Written.{Written}
+use Rattle.rlc_c.specs.Interface.{two?, otherRecord, handedTo, ChangesInC, repliedInC, SearchesInC, wroteInC, WritesInC}
+
+-- a record of another length
+pub other : (words : List ℕ) → (length words ≡ 2 → ⊥) → two? words ≡ false
+other words d = test-false (test-eq (length words) 2) d
+
+pub two : (words : List ℕ) → length words ≡ 2 → two? words ≡ true
+two words e = test-true (test-eq (length words) 2) e
+
+pub untouched : {words : List ℕ} {m : Memory} {c : Change} → (length words ≡ 2 → ⊥)
+    → ChangesInC words m c otherRecord words (m .edges) (m .index) (m .work)
+untouched {words} d =
+    let e = other words d in
+    record { reply = rw e refl; words-after = rw e refl; edges-after = rw e refl; index-after = rw e refl; work-after = rw e refl }
+
+-- two numbers written to a record of two
+pub written : (words : List ℕ) (a b : ℕ) → length words ≡ 2 → set (set words 0 a) 1 b ≡ a ∷ b ∷ []
+written [] a b e = absurd (omega arith)
+written (x ∷ []) a b e = absurd (omega arith)
+written (x ∷ y ∷ []) a b e = refl
+written (x ∷ y ∷ z ∷ l) a b e = absurd (omega arith)
+
+-- a call that hands back a record
+pub changed : {words edges index work : List ℕ} {m : Memory} {c : Change} {h : Header} {answer : Answer} {r v l : ℕ}
+    → length words ≡ 2 → c .handed ≡ back h → record { vertices = v; longest = l } ≡ numbersOf (c .handed) → Leaves c answer edges index work
+    → r ≡ answerOf answer → ChangesInC words m c r (set (set words 0 v) 1 l) edges index work
+changed {words} {h = h} {v = v} {l = l} e hands header leaves q =
+    let t = two words e in
+    let same : record { vertices = v; longest = l } ≡ h = header ∙ ap numbersOf hands in
+    record {
+      reply = rw t (q ∙ leaves .answer);
+      words-after = rw (t, hands) (written words v l e ∙ ap (λ (k : Header). k .vertices ∷ k .longest ∷ []) same);
+      edges-after = rw t (leaves .edges-after);
+      index-after = rw t (leaves .index-after);
+      work-after = rw t (leaves .work-after);
+    }
+
+-- a card that is refused hands back none
+pub kept : {words edges index work : List ℕ} {m : Memory} {c : Change} {answer : Answer} {r : ℕ}
+    → length words ≡ 2 → c .handed ≡ none → Leaves c answer edges index work → r ≡ answerOf answer → ChangesInC words m c r words edges index work
+kept {words} e hands l q =
+    let t = two words e in
+    record {
+      reply = rw t (q ∙ l .answer);
+      words-after = rw (t, hands) refl;
+      edges-after = rw t (l .edges-after);
+      index-after = rw t (l .index-after);
+      work-after = rw t (l .work-after);
+    }
+
+-- the record that a card reading hands back: the card's where it is accepted, else none
+read-result : (card : List ℕ) (m : Memory)
+    → (n : ℕ) × Result (readCall card m) none m (settledChange (headerOf card) (edgesOf (drop headBytes card)) m) n
+unfolding readCall readRefusal
+read-result card m = (_, settled none (headerOf card) (edgesOf (drop headBytes card)) m _ tt)
+
+pub read-accepted : (card : List ℕ) (m : Memory) → 0 ≡ readCall card m .answer → readCall card m .handed ≡ back (headerOf card)
+read-accepted card m e =
+    let (n, r) = read-result card m in
+    elim (decLt 0 n) [ yes h ↦ absurd (omega (arith, h, r .answer h, e)) | no h ↦ ap (λ (c : Change). c .handed) (r .accepted (omega (arith, h))) ]
+
+pub read-refused : (card : List ℕ) (m : Memory) (refusal : Refusal) → numberOf refusal ≡ readCall card m .answer → readCall card m .handed ≡ none
+read-refused card m refusal e =
+    let (n, r) = read-result card m in
+    elim (decLt 0 n) [
+      | yes h ↦ r .handed h
+      | no h ↦ absurd (let z = ap (λ (c : Change). c .answer) (r .accepted (omega (arith, h))) in omega (arith, z, e, number-some refusal))
+    ]
+
+-- ---- calls that change no record
+
+module _ {words work : List ℕ} {c : Searched} where
+  pub unsearched : (length words ≡ 2 → ⊥) → SearchesInC words work c (otherRecord * 2 ^ 32) work
+  unsearched d = let e = other words d in record { reply = rw e refl; work-after = rw e refl }
+
+  pub searched : {r : ℕ} {work′ : List ℕ} {reply : SearchReply} → length words ≡ 2 → SearchMeets c reply work′ → r ≡ repliedInC (replyOf reply) → SearchesInC words work c r work′
+  searched e s q = let t = two words e in record { reply = rw t (q ∙ ap repliedInC (s .reply)); work-after = rw t (s .work-after) }
+
+module _ {words output : List ℕ} {c : CardWritten} where
+  pub unwritten : (length words ≡ 2 → ⊥) → WritesInC words output c (otherRecord * 2 ^ 32) output
+  unwritten d = let e = other words d in record { reply = rw e refl; output-after = rw e refl }
+
+  pub wrote : {r : ℕ} {output′ : List ℕ} {reply : Written} → length words ≡ 2 → WriteMeets c reply output′ → r ≡ wroteInC (wroteOf reply) → WritesInC words output c r output′
+  wrote e s q = let t = two words e in record { reply = rw t (q ∙ ap wroteInC (s .reply)); output-after = rw t (s .output-after) }
+
+-- a minimum repeat has at most four labels
+pub folded-short : (l : List ℕ) → foldedLength l ≤ mostLongest
+unfolding foldedLength
+folded-short l = by-test (λ (n : ℕ). n ≤ mostLongest) (test-keyed mostLongest l) (λ k. folded k .keyed .short) (λ _. omega arith)

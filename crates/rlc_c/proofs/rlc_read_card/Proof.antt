@@ -1,0 +1,84 @@
+-- `rlc_c::rlc_read_card` meets its contract.
+use mathlib.Core.Path.{sym, ap, _∙_}
+use native.Mathlib.Omega.{arith}
+use lib.ListN.{length-set}
+use Rattle.model.specs.Replies.{answerOf}
+use Rattle.rlc_c.proofs.Handing.{untouched, changed, kept, read-accepted, read-refused}
+use borrow.Author.Needs.{needs}
+use Rattle.rlc_c.proofs.rlc_read_card.Statement.{statement}
+use Rattle.rlc_c.proofs.rlc_read_card.Tie as tie
+
+returns : tie.Need-returns
+returns c = untouched (c .if1 .taken)
+
+read-card-requires : tie.Need-read-card-requires
+read-card-requires c κs = search needs
+
+enum-told : tie.Need-enum-told
+enum-told c = search needs
+
+slice-write-words : tie.Need-slice-write-words
+slice-write-words c = search needs
+
+slice-write-words-2 : tie.Need-slice-write-words-2
+slice-write-words-2 c = simp length-set (omega arith)
+
+enum-known-answer : tie.Need-enum-known-answer
+enum-known-answer c = search needs
+
+refusal-number-requires : tie.Need-refusal-number-requires
+refusal-number-requires c κs = search needs
+
+same-length : tie.Need-same-length
+same-length c = search needs
+
+same-length-2 : tie.Need-same-length-2
+same-length-2 c = search needs
+
+same-length-3 : tie.Need-same-length-3
+same-length-3 c = search needs
+
+same-length-4 : tie.Need-same-length-4
+same-length-4 c = search needs
+
+returns-2 : tie.Need-returns-2
+returns-2 c =
+    let meets = c .before .before .before .before .before .before .before .before .before .read-card .ensures in
+    let told = ap answerOf (c .enum-told .given .1) in
+    changed (c .before .before .before .before .before .before .before .before .before .before .before .before .before .if1 .left) (read-accepted _ _ (sym told ∙ meets .leaves .answer)) (meets .header) (meets .leaves) (sym told)
+
+same-length-5 : tie.Need-same-length-5
+same-length-5 c = search needs
+
+same-length-6 : tie.Need-same-length-6
+same-length-6 c = search needs
+
+same-length-7 : tie.Need-same-length-7
+same-length-7 c = search needs
+
+returns-3 : tie.Need-returns-3
+returns-3 c =
+    let meets = c .before .before .before .before .before .before .before .before .before .before .before .read-card .ensures in
+    let told = ap answerOf (c .before .before .answer .given .1) in
+    kept (c .before .before .before .before .before .before .before .before .before .before .before .before .before .before .before .if1 .left) (read-refused _ _ (c .before .before .answer .given .0 .0) (sym told ∙ meets .leaves .answer)) (meets .leaves) (c .refusal-number .ensures ∙ sym told)
+
+pub rlc-read-card-spec : {M : Type 1} → statement M
+rlc-read-card-spec =
+    tie.close
+    (tie.spec
+    returns
+    read-card-requires
+    enum-told
+    slice-write-words
+    slice-write-words-2
+    enum-known-answer
+    refusal-number-requires
+    same-length
+    same-length-2
+    same-length-3
+    same-length-4
+    returns-2
+    same-length-5
+    same-length-6
+    same-length-7
+    returns-3)

@@ -1,0 +1,264 @@
+// The C interface (include/rlc.h): each function is one public call of `store`, with the record as two numbers in memory and the reply as a
+// number. A record of another length gives 255, and nothing is touched.
+use model::Answer;
+use model::QueryReply;
+use model::SearchReply;
+use store::Header;
+use store::Written;
+ghost use mathlib.Core.Path.{_≡_};
+ghost use mathlib.Core.Bool.{cond};
+ghost use mathlib.Core.List.{[]};
+ghost use Rattle.model.specs.Patterns.{foldedLength};
+ghost use Rattle.model.specs.Replies.{answerOf};
+ghost use Rattle.calls.specs.Change.{openCall, insertCall, removeCall};
+ghost use Rattle.calls.specs.Card.{readCall, writeCall};
+ghost use Rattle.calls.specs.Query.{queryCall};
+ghost use Rattle.calls.specs.Search.{searchCall};
+ghost use Rattle.rlc_c.specs.Interface.{headerIn, two?, otherRecord, ChangesInC, answeredInC, SearchesInC, WritesInC};
+
+const OTHER_RECORD: u32 = 255;
+
+const YES: u32 = 100;
+
+const SPENT: u32 = 101;
+
+// A reply stands above 32 bits for the levels.
+const UNIT: u64 = 4294967296;
+
+fn number(answer: Answer) -> u32
+    ensures { λ r. ⌜ r ≡ answerOf answer ⌝ }
+{
+    match answer {
+        Answer::Accepted => 0,
+        Answer::Refused(refusal) => store::refusal_number(refusal),
+    }
+}
+
+// Opening.
+#[no_mangle]
+pub extern "C" fn rlc_open(words: &mut [u32], edges: &mut [u32], index: &mut [u64]) -> u32
+    ensures { λ r. ⌜
+        ChangesInC (now (words .entry)) (record { edges = now (edges .entry); index = now (index .entry); work = [] })
+        (openCall (headerIn (now (words .entry))) (record { edges = now (edges .entry); index = now (index .entry); work = [] }))
+        r (now (words .exit)) (now (edges .exit)) (now (index .exit)) []
+        ⌝ }
+{
+    if words.len() != 2 {
+        return OTHER_RECORD;
+    }
+    let header = Header {
+        vertices: words[0],
+        longest: words[1],
+    };
+    let changed = header.open(edges, index);
+    let back = changed.header;
+    words[0] = back.vertices;
+    words[1] = back.longest;
+    let answer = changed.answer;
+    number(answer)
+}
+
+// Insertion (laying).
+#[no_mangle]
+pub extern "C" fn rlc_insert(
+    words: &mut [u32],
+    from: u32,
+    label: u32,
+    to: u32,
+    edges: &mut [u32],
+    index: &mut [u64],
+    work: &mut [u64],
+) -> u32
+    ensures { λ r. ⌜
+        ChangesInC (now (words .entry))
+        (record { edges = now (edges .entry); index = now (index .entry); work = now (work .entry) })
+        (insertCall (headerIn (now (words .entry))) from label to
+        (record { edges = now (edges .entry); index = now (index .entry); work = now (work .entry) }))
+        r (now (words .exit)) (now (edges .exit)) (now (index .exit)) (now (work .exit))
+        ⌝ }
+{
+    if words.len() != 2 {
+        return OTHER_RECORD;
+    }
+    let header = Header {
+        vertices: words[0],
+        longest: words[1],
+    };
+    let changed = header.insert(from, label, to, edges, index, work);
+    let back = changed.header;
+    words[0] = back.vertices;
+    words[1] = back.longest;
+    let answer = changed.answer;
+    number(answer)
+}
+
+// Removal (lifting).
+#[no_mangle]
+pub extern "C" fn rlc_remove(
+    words: &mut [u32],
+    from: u32,
+    label: u32,
+    to: u32,
+    edges: &mut [u32],
+    index: &mut [u64],
+    work: &mut [u64],
+) -> u32
+    ensures { λ r. ⌜
+        ChangesInC (now (words .entry))
+        (record { edges = now (edges .entry); index = now (index .entry); work = now (work .entry) })
+        (removeCall (headerIn (now (words .entry))) from label to
+        (record { edges = now (edges .entry); index = now (index .entry); work = now (work .entry) }))
+        r (now (words .exit)) (now (edges .exit)) (now (index .exit)) (now (work .exit))
+        ⌝ }
+{
+    if words.len() != 2 {
+        return OTHER_RECORD;
+    }
+    let header = Header {
+        vertices: words[0],
+        longest: words[1],
+    };
+    let changed = header.remove(from, label, to, edges, index, work);
+    let back = changed.header;
+    words[0] = back.vertices;
+    words[1] = back.longest;
+    let answer = changed.answer;
+    number(answer)
+}
+
+// Card reading. The record is written where the card is accepted.
+#[no_mangle]
+pub extern "C" fn rlc_read_card(
+    words: &mut [u32],
+    card: &[u8],
+    edges: &mut [u32],
+    index: &mut [u64],
+    work: &mut [u64],
+) -> u32
+    ensures { λ r. ⌜
+        ChangesInC (now (words .entry))
+        (record { edges = now (edges .entry); index = now (index .entry); work = now (work .entry) })
+        (readCall (now (card .entry))
+        (record { edges = now (edges .entry); index = now (index .entry); work = now (work .entry) }))
+        r (now (words .exit)) (now (edges .exit)) (now (index .exit)) (now (work .exit))
+        ⌝ }
+{
+    if words.len() != 2 {
+        return OTHER_RECORD;
+    }
+    let changed = store::read_card(card, edges, index, work);
+    let back = changed.header;
+    let answer = changed.answer;
+    match answer {
+        Answer::Accepted => {
+            words[0] = back.vertices;
+            words[1] = back.longest;
+            0
+        }
+        Answer::Refused(refusal) => store::refusal_number(refusal),
+    }
+}
+
+// The query.
+#[no_mangle]
+pub extern "C" fn rlc_query(
+    words: &[u32],
+    start: u32,
+    destination: u32,
+    pattern: &[u8],
+    index: &[u64],
+) -> u32
+    ensures { λ r. ⌜
+        r ≡ cond (two? (now (words .entry)))
+        (answeredInC (queryCall (headerIn (now (words .entry)) .vertices) (headerIn (now (words .entry)) .longest)
+        start destination (now (pattern .entry)) (now (index .entry)))) otherRecord
+        ⌝ }
+{
+    if words.len() != 2 {
+        return OTHER_RECORD;
+    }
+    let header = Header {
+        vertices: words[0],
+        longest: words[1],
+    };
+    let reply = store::query(header, start, destination, pattern, index);
+    match reply {
+        QueryReply::Yes => YES,
+        QueryReply::No => 0,
+        QueryReply::Refused(refusal) => store::refusal_number(refusal),
+    }
+}
+
+// The level search (plain check).
+#[no_mangle]
+pub extern "C" fn rlc_search(
+    words: &[u32],
+    start: u32,
+    destination: u32,
+    pattern: &[u8],
+    level_limit: u32,
+    edges: &[u32],
+    work: &mut [u64],
+) -> u64
+    ensures { λ r. ⌜
+        SearchesInC (now (words .entry)) (now (work .entry))
+        (searchCall (headerIn (now (words .entry)) .vertices) (headerIn (now (words .entry)) .longest)
+        start destination (now (pattern .entry)) «level_limit» (now (edges .entry)) (now (work .entry)))
+        r (now (work .exit))
+        ⌝ }
+{
+    if words.len() != 2 {
+        return OTHER_RECORD as u64 * UNIT;
+    }
+    let header = Header {
+        vertices: words[0],
+        longest: words[1],
+    };
+    let reply = store::level_search(
+        header,
+        start,
+        destination,
+        pattern,
+        level_limit,
+        edges,
+        work,
+    );
+    match reply {
+        SearchReply::Yes(levels) => YES as u64 * UNIT + levels as u64,
+        SearchReply::No(levels) => levels as u64,
+        SearchReply::Spent(levels) => SPENT as u64 * UNIT + levels as u64,
+        SearchReply::Refused(refusal) => store::refusal_number(refusal) as u64 * UNIT,
+    }
+}
+
+// Card writing.
+#[no_mangle]
+pub extern "C" fn rlc_write_card(words: &[u32], edges: &[u32], output: &mut [u8]) -> u64
+    ensures { λ r. ⌜
+        WritesInC (now (words .entry)) (now (output .entry))
+        (writeCall (headerIn (now (words .entry))) (now (edges .entry)) (now (output .entry)))
+        r (now (output .exit))
+        ⌝ }
+{
+    if words.len() != 2 {
+        return OTHER_RECORD as u64 * UNIT;
+    }
+    let header = Header {
+        vertices: words[0],
+        longest: words[1],
+    };
+    let written = store::write_card(header, edges, output);
+    match written {
+        Written::Length(length) => length as u64,
+        Written::Refused(refusal) => store::refusal_number(refusal) as u64 * UNIT,
+    }
+}
+
+// The length of a pattern's minimum repeat.
+#[no_mangle]
+pub extern "C" fn rlc_minimum_repeat(pattern: &[u8]) -> u32
+    ensures { λ r. ⌜ r ≡ foldedLength (now (pattern .entry)) ⌝ }
+{
+    let folded = store::minimum_repeat(pattern);
+    folded.length as u32
+}
