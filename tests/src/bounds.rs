@@ -1,0 +1,224 @@
+//! The boundaries: numbers of vertices, longest patterns, slots and bytes at which an answer changes, and the largest layouts.
+
+use crate::calls::{card_of, Check, Memory, EDGES};
+use crate::compare::{Tester, SPENT, YES};
+use crate::gen;
+use crate::lent::Lent;
+use crate::library::*;
+use crate::reference::*;
+use crate::trials::CARD_A;
+
+pub fn run(t: &mut Tester) {
+    t.part = "bounds";
+    headers(t);
+    small_memories(t);
+    all_patterns(t);
+    cards(t);
+    largest(t);
+    longest_search(t);
+    record_lengths(t);
+}
+
+fn headers(t: &mut Tester) {
+    for vertices in [0, 1, 2, 255, 256, 257, 258, 511, 512, 65_536, 65_537, 1 << 31, u32::MAX] {
+        for longest in [0, 1, 2, 3, 4, 5, 6, 256, 257, 260, u32::MAX] {
+            for slots in [0, 1, 1023, 1024, 1025, 2048] {
+                let mut memory = gen::noise(&mut t.rng, slots, 3, 0);
+                let expected = match (vertices, longest) {
+                    (0 | 257.., _) => 1,
+                    (_, 0 | 5..) => 2,
+                    _ if slots > 1024 => 3,
+                    _ => 0,
+                };
+                let reply = t.open([vertices, longest], &mut memory);
+                t.expect("an opening", reply, expected);
+            }
+        }
+    }
+}
+
+/// Card A and an insertion in every small memory, from 0 slots up.
+fn small_memories(t: &mut Tester) {
+    for edges in 0..=5 {
+        for index in 0..=8 {
+            for work in [0, 1, 4095, 4095 + index, 4096 + index, 4097 + index] {
+                let mut memory = gen::noise(&mut t.rng, edges, index, work);
+                let record = t.read_card(&CARD_A, &mut memory).1.unwrap_or([3, 2]);
+                memory.work = t.rng.words(work);
+                t.change(true, record, (2, 1, 0), &mut memory);
+                memory.work = t.rng.words(work);
+                t.change(false, record, (0, 1, 1), &mut memory);
+                t.open([3, 2], &mut memory);
+                memory.work = t.rng.words(work);
+                t.change(true, record, (2, 1, 0), &mut memory);
+                t.query(record, 2, 0, &[1], &memory.index);
+                let check = Check { start: 2, destination: 0, pattern: vec![1, 1], allowed: 3 };
+                t.search(record, &check, &mut memory);
+            }
+        }
+    }
+}
+
+/// The minimum repeat of every pattern, and of what is none.
+fn all_patterns(t: &mut Tester) {
+    let labels: Vec<u8> = (1..=8).collect();
+    let mut last: Vec<Vec<u8>> = vec![vec![]];
+    t.minimum_repeat(&[]);
+    for _ in 0..5 {
+        last = last.iter().flat_map(|p| labels.iter().map(move |l| [&p[..], &[*l]].concat())).collect();
+        for pattern in &last {
+            t.minimum_repeat(pattern);
+        }
+        if last[0].len() == 4 {
+            last.truncate(200);
+        }
+    }
+    for length in 1..=4 {
+        for i in 0..length {
+            for label in [0, 9, 10, 15, 16, 17, 128, 255] {
+                let mut pattern = vec![1; length];
+                pattern[i] = label;
+                t.minimum_repeat(&pattern);
+            }
+        }
+    }
+    for length in [5, 6, 8, 64, 256, 257, 260, 1000] {
+        t.minimum_repeat(&vec![1; length]);
+    }
+}
+
+fn cards(t: &mut Tester) {
+    // 4,096 bytes are no card's length; 4,095 are, with 1,362 edges, and no edge memory has room for them.
+    for (count, slots, expected) in [
+        (1024, 1024, 0),
+        (1024, 1023, 9),
+        (1025, 1024, 9),
+        (1025, 1025, 3),
+        (1362, 1024, 9),
+        (65_535, 1024, 9),
+        (65_535, 65_535, 3),
+    ] {
+        let edges = gen::many_edges(&mut t.rng, count);
+        let card = card_of([256, 1], &edges);
+        let mut memory = gen::noise(&mut t.rng, slots, 60_000, 64_096);
+        let reply = t.read_card(&card, &mut memory).0;
+        t.expect("a card of many edges", reply, expected);
+        if expected == 0 {
+            for room in [card.len() - 1, card.len(), 4096] {
+                let mut output = t.rng.bytes(room);
+                t.write_card([256, 1], &memory.edges, &mut output);
+            }
+        }
+        if count == 1362 {
+            let mut longer = card.clone();
+            longer.push(1);
+            t.expect("a card's length", longer.len(), 4096);
+            let reply = t.read_card(&longer, &mut memory).0;
+            t.expect("a card of 4,096 bytes", reply, 16);
+        }
+    }
+    // Card A cut off everywhere, and with every byte changed.
+    for length in 0..CARD_A.len() {
+        let mut memory = gen::noise(&mut t.rng, 3, 5, 4101);
+        t.read_card(&CARD_A[..length], &mut memory);
+        for byte in 0..=255 {
+            let mut card = CARD_A;
+            card[length] = byte;
+            let mut memory = gen::noise(&mut t.rng, 4, 60, 4156);
+            t.read_card(&card, &mut memory);
+        }
+    }
+}
+
+/// 256 vertices and 1,024 edges, k 4: an index of some hundred thousand entries, one slot too few, and full edge memory.
+fn largest(t: &mut Tester) {
+    for labels in [8, 2] {
+        let edges: Vec<Edge> = {
+            let mut all = std::collections::BTreeSet::new();
+            while all.len() < EDGES {
+                all.insert((t.rng.below(256) as u32, t.rng.from_to(1, labels) as u32, t.rng.below(256) as u32));
+            }
+            all.into_iter().collect()
+        };
+        let needed = determined(&edges, 4).len();
+        println!("largest layout, {labels} labels: {needed} entries");
+        let card = card_of([256, 4], &edges);
+        for (index, expected) in [(needed - 1, 13), (needed, 0)] {
+            let mut memory = gen::noise(&mut t.rng, EDGES, index, 4096 + index);
+            let reply = t.read_card(&card, &mut memory).0;
+            t.expect("the largest layout", reply, expected);
+            if expected == 0 {
+                of_largest(t, &edges, &mut memory);
+            }
+        }
+    }
+}
+
+fn of_largest(t: &mut Tester, edges: &[Edge], memory: &mut Memory) {
+    let absent = (0..).map(|i| (255, 1, i)).find(|edge| !edges.contains(edge)).unwrap();
+    memory.work = t.rng.words(memory.index.len() + 4096);
+    let reply = t.change(true, [256, 4], absent, memory);
+    t.expect("an edge for which there is no slot", reply, 9);
+    for _ in 0..300 {
+        let (start, destination) = (t.rng.below(256) as u32, t.rng.below(256) as u32);
+        let length = t.rng.from_to(1, 4);
+        let pattern: Vec<u8> = (0..length).map(|_| t.rng.from_to(1, 2) as u8).collect();
+        if t.rng.one_in(20) {
+            t.query([256, 4], start, destination, &pattern, &memory.index);
+        }
+        let check = Check { start, destination, pattern, allowed: t.rng.pick(&[3, 1025]) };
+        let mut lent = Memory { edges: memory.edges.clone(), index: vec![], work: t.rng.words(4096) };
+        t.search([256, 4], &check, &mut lent);
+    }
+    memory.work = t.rng.words(memory.index.len() + 4096);
+    t.change(false, [256, 4], edges[500], memory);
+}
+
+/// A search through all 1,024 pairs of vertex and labels used, one to a level.
+fn longest_search(t: &mut Tester) {
+    let edges: Vec<Edge> = (0..256).flat_map(|v| [(v, 1, v), (v, 2, v), (v, 3, v), (v, 4, (v + 1) % 256)]).collect();
+    let mut memory = Memory { edges: gen::edge_memory(&edges, EDGES), index: vec![], work: vec![] };
+    for (allowed, expected) in
+        [(1023, (SPENT, 1023)), (1024, (YES, 1024)), (1025, (YES, 1024)), (u32::MAX, (YES, 1024))]
+    {
+        memory.work = t.rng.words(4096);
+        let check = Check { start: 7, destination: 7, pattern: vec![1, 2, 3, 4], allowed };
+        let reply = t.search([256, 4], &check, &mut memory);
+        t.expect("the longest search", reply, expected);
+    }
+}
+
+/// A record of another length than 2: 255, and nothing is touched.
+fn record_lengths(t: &mut Tester) {
+    for n in [0, 1, 3, 4, 100] {
+        let values: Vec<u32> = [3, 2].iter().copied().cycle().take(n).collect();
+        let mut record: Lent<u32> = Lent::new(&values, 77);
+        let mut edges: Lent<u32> = Lent::new(&[256 + 1, 0, 0], 78);
+        let mut index: Lent<u64> = Lent::new(&[9; 20], 79);
+        let mut work: Lent<u64> = Lent::new(&[5; 4116], 80);
+        let mut card: Lent<u8> = Lent::new(&CARD_A, 81);
+        let mut output: Lent<u8> = Lent::new(&[3; 30], 82);
+        let mut pattern: Lent<u8> = Lent::new(&[1], 83);
+        let wide = 255 << 32;
+        let (r, e, i) = (record.pointer(), edges.pointer(), index.pointer());
+        let (w, c, o, p) = (work.pointer(), card.pointer(), output.pointer(), pattern.pointer());
+        unsafe {
+            t.expect("open, 255", rlc_open(r, n, e, 3, i, 20), 255);
+            t.expect("insert, 255", rlc_insert(r, n, 1, 1, 2, e, 3, i, 20, w, 4116), 255);
+            t.expect("remove, 255", rlc_remove(r, n, 0, 1, 1, e, 3, i, 20, w, 4116), 255);
+            t.expect("query, 255", rlc_query(r, n, 0, 1, p, 1, i, 20), 255);
+            t.expect("search, 255", rlc_search(r, n, 0, 1, p, 1, 5, e, 3, w, 4116), wide);
+            t.expect("read_card, 255", rlc_read_card(r, n, c, 18, e, 3, i, 20, w, 4116), 255);
+            t.expect("write_card, 255", rlc_write_card(r, n, e, 3, o, 30), wide);
+        }
+        let untouched = record.content() == values
+            && edges.content() == [257, 0, 0]
+            && index.content() == [9; 20]
+            && work.content() == [5; 4116];
+        let rest = card.content() == CARD_A && output.content() == [3; 30] && pattern.content() == [1];
+        let guards = record.guards_hold() && edges.guards_hold() && index.guards_hold() && work.guards_hold();
+        let more = card.guards_hold() && output.guards_hold() && pattern.guards_hold();
+        t.expect("nothing touched after 255", untouched && rest && guards && more, true);
+        t.calls += 7;
+    }
+}

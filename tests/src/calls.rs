@@ -1,0 +1,198 @@
+//! Every public call as document 01 defines it, on plain values. Each returns all refusals that apply, in the call's
+//! order: the first is the reply, an empty list is acceptance. What the others are good for is the count of pairs
+//! of refusals that applied at once.
+//!
+//! A later condition is judged as far as it has a meaning where an earlier one applies: 7, 8, 9, 13 and 17 where edge memory
+//! reads as rising edges of some layout, and 13 by patterns of at most 2 labels (longer ones only add entries).
+
+use crate::reference::*;
+use std::collections::BTreeSet;
+
+/// Vertices and longest pattern: document 01's record.
+pub type Record = [u32; 2];
+pub type Refusals = Vec<u32>;
+
+pub const WORK: usize = 4096;
+pub const EDGES: usize = 1024;
+
+#[derive(Clone, Debug, Default)]
+pub struct Memory {
+    pub edges: Vec<u32>,
+    pub index: Vec<u64>,
+    pub work: Vec<u64>,
+}
+
+fn applying(conditions: &[(u32, bool)]) -> Refusals {
+    conditions.iter().filter(|condition| condition.1).map(|condition| condition.0).collect()
+}
+
+fn bad_vertices(record: Record) -> bool {
+    !(1..=256).contains(&record[0])
+}
+
+fn bad_longest(longest: u32) -> bool {
+    !(1..=4).contains(&longest)
+}
+
+fn bad_edges(memory: &[u32], vertices: u32) -> bool {
+    memory.len() > EDGES || !standing(memory).is_some_and(|edges| edges_of_layout(&edges, vertices))
+}
+
+fn bad_pattern(pattern: &[u8], longest: u32) -> bool {
+    pattern.is_empty() || pattern.len() > longest as usize || !pattern.iter().all(|label| is_label(*label as u32))
+}
+
+pub fn folded(pattern: &[u8]) -> Vec<u32> {
+    minimum_repeat(pattern).iter().map(|label| *label as u32).collect()
+}
+
+/// `values`, then zeros.
+pub fn fill<T: Copy + Default>(memory: &mut [T], values: &[T]) {
+    memory.fill(T::default());
+    memory[..values.len()].copy_from_slice(values);
+}
+
+/// The end that insertion, removal and card reading share: 13, or the wanted edges and their index are written.
+fn settle(mut refusals: Refusals, wanted: &[Edge], longest: u32, memory: &mut Memory) -> Refusals {
+    if refusals.is_empty() {
+        let entries = determined(wanted, longest);
+        if entries.len() > memory.index.len() {
+            refusals.push(13);
+        } else {
+            let numbers: Vec<u32> = wanted.iter().map(|edge| edge_number(*edge)).collect();
+            fill(&mut memory.edges, &numbers);
+            fill(&mut memory.index, &entries);
+        }
+        memory.work.fill(0);
+    } else if determined_entries(wanted, longest.min(2)).len() > memory.index.len() {
+        refusals.push(13);
+    }
+    refusals
+}
+
+pub fn open(record: Record, memory: &mut Memory) -> Refusals {
+    let refusals = applying(&[(1, bad_vertices(record)), (2, bad_longest(record[1])), (3, memory.edges.len() > EDGES)]);
+    if refusals.is_empty() {
+        memory.edges.fill(0);
+        memory.index.fill(0);
+    }
+    refusals
+}
+
+/// Insertion (lay) or removal (lift).
+pub fn change(insertion: bool, record: Record, edge: Edge, memory: &mut Memory) -> Refusals {
+    let vertices = record[0];
+    let mut refusals = applying(&[
+        (1, bad_vertices(record)),
+        (2, bad_longest(record[1])),
+        (3, bad_edges(&memory.edges, vertices)),
+        (4, memory.work.len() < WORK + memory.index.len()),
+        (5, edge.0 >= vertices || edge.2 >= vertices),
+        (6, !is_label(edge.1)),
+    ]);
+    let Some(edges) = standing(&memory.edges) else { return refusals };
+    let stands = edges.contains(&edge);
+    if insertion {
+        refusals.extend(applying(&[(7, stands), (9, memory.edges.len() < edges.len() + 1)]));
+    } else {
+        refusals.extend(applying(&[(8, !stands)]));
+    }
+    let mut wanted: BTreeSet<Edge> = edges.into_iter().collect();
+    if insertion {
+        wanted.insert(edge);
+    } else {
+        wanted.remove(&edge);
+    }
+    let wanted: Vec<Edge> = wanted.into_iter().collect();
+    settle(refusals, &wanted, record[1], memory)
+}
+
+/// The question: its refusals, and yes or no where there are none.
+pub fn query(record: Record, start: u32, destination: u32, pattern: &[u8], index: &[u64]) -> (Refusals, bool) {
+    let [vertices, longest] = record;
+    let refusals = applying(&[
+        (1, bad_vertices(record)),
+        (2, bad_longest(longest)),
+        (10, start >= vertices || destination >= vertices),
+        (11, bad_pattern(pattern, longest)),
+        (12, !is_index(index, vertices, longest)),
+    ]);
+    let yes = refusals.is_empty() && answer(index, start, destination, &folded(pattern));
+    (refusals, yes)
+}
+
+/// What a plain check is asked.
+#[derive(Clone, Debug)]
+pub struct Check {
+    pub start: u32,
+    pub destination: u32,
+    pub pattern: Vec<u8>,
+    pub allowed: u32,
+}
+
+/// The plain check: its refusals, and what it found where there are none.
+pub fn search(record: Record, check: &Check, edges: &[u32], work: &mut [u64]) -> (Refusals, Found) {
+    let [vertices, longest] = record;
+    let refusals = applying(&[
+        (1, bad_vertices(record)),
+        (2, bad_longest(longest)),
+        (3, bad_edges(edges, vertices)),
+        (4, work.len() < WORK),
+        (10, check.start >= vertices || check.destination >= vertices),
+        (11, bad_pattern(&check.pattern, longest)),
+    ]);
+    if !refusals.is_empty() {
+        return (refusals, Found::No(0));
+    }
+    work.fill(0);
+    let edges = standing(edges).unwrap();
+    (refusals, levels(&edges, check.start, check.destination, &folded(&check.pattern), check.allowed))
+}
+
+/// The layout card of a header and edges.
+pub fn card_of(record: Record, edges: &[Edge]) -> Vec<u8> {
+    let mut card = b"PRC\x00\x01".to_vec();
+    card.push((record[0] - 1) as u8);
+    card.push(record[1] as u8);
+    card.extend((edges.len() as u16).to_be_bytes());
+    edges.iter().for_each(|edge| card.extend([edge.0 as u8, edge.1 as u8, edge.2 as u8]));
+    card
+}
+
+/// Card reading: its refusals, and the card's record where there are none.
+pub fn read_card(card: &[u8], memory: &mut Memory) -> (Refusals, Option<Record>) {
+    let vertices = card.get(5).map_or(0, |byte| *byte as u32 + 1);
+    let longest = card.get(6).map_or(0, |byte| *byte as u32);
+    let claimed = card.get(7..9).map_or(0, |bytes| bytes[0] as usize * 256 + bytes[1] as usize);
+    // The claimed edges that are there.
+    let triples = card.get(9..).unwrap_or(&[]).chunks_exact(3).take(claimed);
+    let edges: Vec<Edge> = triples.map(|bytes| (bytes[0] as u32, bytes[1] as u32, bytes[2] as u32)).collect();
+    let refusals = applying(&[
+        (14, card.len() < 9 || &card[..3] != b"PRC"),
+        (15, card.get(3..5).is_some_and(|version| version != [0, 1])),
+        (2, card.len() > 6 && bad_longest(longest)),
+        (16, card.len() != 9 + 3 * claimed || !rising(&edges) || !edges_of_layout(&edges, vertices)),
+        (3, memory.edges.len() > EDGES),
+        (9, memory.edges.len() < claimed),
+        (4, memory.work.len() < WORK + memory.index.len()),
+    ]);
+    let refusals = settle(refusals, &edges, longest, memory);
+    let record = refusals.is_empty().then_some([vertices, longest]);
+    (refusals, record)
+}
+
+/// Card writing: its refusals, and the card's length where there are none.
+pub fn write_card(record: Record, edges: &[u32], output: &mut [u8]) -> (Refusals, usize) {
+    let standing = standing(edges).unwrap_or_default();
+    let length = 9 + 3 * standing.len();
+    let refusals = applying(&[
+        (1, bad_vertices(record)),
+        (2, bad_longest(record[1])),
+        (3, bad_edges(edges, record[0])),
+        (17, output.len() < length),
+    ]);
+    if refusals.is_empty() {
+        output[..length].copy_from_slice(&card_of(record, &standing));
+    }
+    (refusals, length)
+}

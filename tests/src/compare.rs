@@ -1,0 +1,217 @@
+//! Each public call put to the library and to the second implementation, and the two compared: reply, record, and
+//! everything lent, with guard words on both sides.
+
+use crate::calls::{self, Check, Memory, Record};
+use crate::counts::{Call, Counts};
+use crate::lent::Lent;
+use crate::library::*;
+use crate::reference::{minimum_repeat, Edge, Found};
+use crate::rng::Rng;
+use std::fmt::Debug;
+
+pub const YES: u32 = 100;
+pub const SPENT: u32 = 101;
+
+pub struct Tester {
+    pub rng: Rng,
+    pub counts: Counts,
+    pub seed: u64,
+    pub round: u64,
+    pub part: &'static str,
+    pub calls: u64,
+}
+
+impl Tester {
+    pub fn new(seed: u64) -> Tester {
+        Tester { rng: Rng::new(seed), counts: Counts::default(), seed, round: 0, part: "", calls: 0 }
+    }
+
+    /// Ends the run: the seed and round say how to see this again.
+    pub fn fail(&self, call: &str, what: &str, expected: String, got: String) -> ! {
+        println!("FAILED: seed {} round {} part {} call number {}", self.seed, self.round, self.part, self.calls);
+        // The largest memories are cut: the seed and round give them whole.
+        println!("  call: {}", call.chars().take(6000).collect::<String>());
+        println!("  {what}: expected {expected}");
+        println!("  {what}: got      {got}");
+        std::process::exit(1);
+    }
+
+    /// Fails unless a fact that a part expects holds.
+    pub fn expect<T: PartialEq + Debug>(&self, what: &str, got: T, expected: T) {
+        if got != expected {
+            self.fail("(expectation of this part)", what, format!("{expected:?}"), format!("{got:?}"));
+        }
+    }
+
+    fn same_reply<T: PartialEq + Debug>(&self, call: &dyn Fn() -> String, got: T, expected: T) {
+        if got != expected {
+            self.fail(&call(), "reply", format!("{expected:?}"), format!("{got:?}"));
+        }
+    }
+
+    fn same<T: PartialEq + Copy + Debug>(&self, call: &dyn Fn() -> String, what: &str, lent: &Lent<T>, expected: &[T]) {
+        if !lent.guards_hold() {
+            self.fail(&call(), &format!("guard words of {what}"), "unchanged".into(), "changed".into());
+        }
+        if let Some(i) = (0..expected.len()).find(|i| lent.content()[*i] != expected[*i]) {
+            let slot = |memory: &[T]| format!("{:?} at {i} of {}", memory[i], memory.len());
+            self.fail(&call(), what, slot(expected), slot(lent.content()));
+        }
+    }
+
+    fn lend<T: PartialEq + Copy>(&mut self, content: &[T], guard: impl Fn(u64) -> T) -> Lent<T> {
+        Lent::new(content, guard(self.rng.next()))
+    }
+
+    fn lend_memory(&mut self, memory: &Memory) -> (Lent<u32>, Lent<u64>, Lent<u64>) {
+        let edges = self.lend(&memory.edges, |n| n as u32);
+        let index = self.lend(&memory.index, |n| n);
+        let work = self.lend(&memory.work, |n| n);
+        (edges, index, work)
+    }
+
+    fn count(&mut self, call: Call, refusals: &[u32]) -> u32 {
+        self.calls += 1;
+        self.counts.add(call, refusals);
+        refusals.first().copied().unwrap_or(0)
+    }
+
+    /// Opening. Returns the reply, 0 or a refusal; the memory becomes what the call leaves.
+    pub fn open(&mut self, record: Record, memory: &mut Memory) -> u32 {
+        let before = memory.clone();
+        let (mut edges, mut index, _) = self.lend_memory(memory);
+        let mut lent_record = self.lend(&record, |n| n as u32);
+        let refusals = calls::open(record, memory);
+        let expected = self.count(Call::Open, &refusals);
+        let got =
+            unsafe { rlc_open(lent_record.pointer(), 2, edges.pointer(), edges.len(), index.pointer(), index.len()) };
+        let call = || format!("open {record:?} {}", show(&before));
+        self.same_reply(&call, got, expected);
+        self.same(&call, "record", &lent_record, &record);
+        self.same(&call, "edge memory", &edges, &memory.edges);
+        self.same(&call, "index memory", &index, &memory.index);
+        expected
+    }
+
+    /// Insertion or removal.
+    pub fn change(&mut self, insertion: bool, record: Record, edge: Edge, memory: &mut Memory) -> u32 {
+        let before = memory.clone();
+        let (mut edges, mut index, mut work) = self.lend_memory(memory);
+        let mut lent_record = self.lend(&record, |n| n as u32);
+        let refusals = calls::change(insertion, record, edge, memory);
+        let expected = self.count(if insertion { Call::Insert } else { Call::Remove }, &refusals);
+        let function = if insertion { rlc_insert } else { rlc_remove };
+        let (e, i, w) = ((edges.pointer(), edges.len()), (index.pointer(), index.len()), (work.pointer(), work.len()));
+        let got = unsafe { function(lent_record.pointer(), 2, edge.0, edge.1, edge.2, e.0, e.1, i.0, i.1, w.0, w.1) };
+        let name = if insertion { "insert" } else { "remove" };
+        let call = || format!("{name} {record:?} {edge:?} {}", show(&before));
+        self.same_reply(&call, got, expected);
+        self.same(&call, "record", &lent_record, &record);
+        self.same(&call, "edge memory", &edges, &memory.edges);
+        self.same(&call, "index memory", &index, &memory.index);
+        self.same(&call, "work memory", &work, &memory.work);
+        expected
+    }
+
+    /// The question. Returns the reply: 0 no, 100 yes, or a refusal.
+    pub fn query(&mut self, record: Record, start: u32, destination: u32, pattern: &[u8], index: &[u64]) -> u32 {
+        let mut lent_record = self.lend(&record, |n| n as u32);
+        let mut lent_pattern = self.lend(pattern, |n| n as u8);
+        let mut lent_index = self.lend(index, |n| n);
+        let (refusals, yes) = calls::query(record, start, destination, pattern, index);
+        let expected = self.count(Call::Query, &refusals) + if yes { YES } else { 0 };
+        let (p, i) = ((lent_pattern.pointer(), lent_pattern.len()), (lent_index.pointer(), lent_index.len()));
+        let got = unsafe { rlc_query(lent_record.pointer(), 2, start, destination, p.0, p.1, i.0, i.1) };
+        let call = || format!("query {record:?} {start} {destination} {pattern:?} index {index:?}");
+        self.same_reply(&call, got, expected);
+        self.same(&call, "record", &lent_record, &record);
+        self.same(&call, "pattern", &lent_pattern, pattern);
+        self.same(&call, "index memory", &lent_index, index);
+        expected
+    }
+
+    /// The plain check. Returns (0 no, 100 yes, 101 spent, or a refusal; levels).
+    pub fn search(&mut self, record: Record, check: &Check, memory: &mut Memory) -> (u32, u32) {
+        let mut lent_record = self.lend(&record, |n| n as u32);
+        let mut pattern = self.lend(&check.pattern, |n| n as u8);
+        let (mut edges, _, mut work) = self.lend_memory(memory);
+        let (refusals, found) = calls::search(record, check, &memory.edges, &mut memory.work);
+        let number = self.count(Call::Search, &refusals);
+        let expected = match found {
+            _ if number != 0 => (number, 0),
+            Found::Yes(c) => (YES, c),
+            Found::No(c) => (0, c),
+            Found::Spent(c) => (SPENT, c),
+        };
+        let (p, e, w) =
+            ((pattern.pointer(), pattern.len()), (edges.pointer(), edges.len()), (work.pointer(), work.len()));
+        let (s, t) = (check.start, check.destination);
+        let got = unsafe { rlc_search(lent_record.pointer(), 2, s, t, p.0, p.1, check.allowed, e.0, e.1, w.0, w.1) };
+        let got = ((got >> 32) as u32, got as u32);
+        let call = || format!("search {record:?} {check:?} {}", show(memory));
+        self.same_reply(&call, got, expected);
+        self.same(&call, "record", &lent_record, &record);
+        self.same(&call, "pattern", &pattern, &check.pattern);
+        self.same(&call, "edge memory", &edges, &memory.edges);
+        self.same(&call, "work memory", &work, &memory.work);
+        expected
+    }
+
+    /// Card reading. Returns the reply, and the record where accepted.
+    pub fn read_card(&mut self, card: &[u8], memory: &mut Memory) -> (u32, Option<Record>) {
+        let before = memory.clone();
+        let given = [self.rng.next() as u32, self.rng.next() as u32];
+        let mut lent_record = self.lend(&given, |n| n as u32);
+        let mut lent_card = self.lend(card, |n| n as u8);
+        let (mut edges, mut index, mut work) = self.lend_memory(memory);
+        let (refusals, record) = calls::read_card(card, memory);
+        let expected = self.count(Call::ReadCard, &refusals);
+        let (c, e) = ((lent_card.pointer(), lent_card.len()), (edges.pointer(), edges.len()));
+        let (i, w) = ((index.pointer(), index.len()), (work.pointer(), work.len()));
+        let got = unsafe { rlc_read_card(lent_record.pointer(), 2, c.0, c.1, e.0, e.1, i.0, i.1, w.0, w.1) };
+        let call = || format!("read_card {card:02x?} {}", show(&before));
+        self.same_reply(&call, got, expected);
+        self.same(&call, "record", &lent_record, &record.unwrap_or(given));
+        self.same(&call, "card", &lent_card, card);
+        self.same(&call, "edge memory", &edges, &memory.edges);
+        self.same(&call, "index memory", &index, &memory.index);
+        self.same(&call, "work memory", &work, &memory.work);
+        (expected, record)
+    }
+
+    /// Card writing. Returns (0 or a refusal, the card's length or 0).
+    pub fn write_card(&mut self, record: Record, edges: &[u32], output: &mut [u8]) -> (u32, usize) {
+        let mut lent_record = self.lend(&record, |n| n as u32);
+        let mut lent_edges = self.lend(edges, |n| n as u32);
+        let mut lent_output = self.lend(output, |n| n as u8);
+        let (refusals, length) = calls::write_card(record, edges, output);
+        let number = self.count(Call::WriteCard, &refusals);
+        let expected = if number == 0 { (0, length) } else { (number, 0) };
+        let (e, o) = ((lent_edges.pointer(), lent_edges.len()), (lent_output.pointer(), lent_output.len()));
+        let got = unsafe { rlc_write_card(lent_record.pointer(), 2, e.0, e.1, o.0, o.1) };
+        let got = ((got >> 32) as u32, got as u32 as usize);
+        let call = || format!("write_card {record:?} edges {edges:?} output of {}", o.1);
+        self.same_reply(&call, got, expected);
+        self.same(&call, "record", &lent_record, &record);
+        self.same(&call, "edge memory", &lent_edges, edges);
+        self.same(&call, "output", &lent_output, output);
+        expected
+    }
+
+    pub fn minimum_repeat(&mut self, pattern: &[u8]) -> u32 {
+        self.calls += 1;
+        let right = (1..=4).contains(&pattern.len()) && pattern.iter().all(|label| (1..=8).contains(label));
+        let expected = if right { minimum_repeat(pattern).len() as u32 } else { 0 };
+        let mut lent = self.lend(pattern, |n| n as u8);
+        let got = unsafe { rlc_minimum_repeat(lent.pointer(), lent.len()) };
+        let call = || format!("minimum_repeat {pattern:?}");
+        self.same_reply(&call, got, expected);
+        self.same(&call, "pattern", &lent, pattern);
+        expected
+    }
+}
+
+/// Memory for a failure's line; of work memory the length, as its content is noise.
+fn show(memory: &Memory) -> String {
+    format!("edges {:?} index {:?} work of {}", memory.edges, memory.index, memory.work.len())
+}

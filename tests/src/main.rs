@@ -1,0 +1,60 @@
+//! Compares the library, through its C interface, with a second implementation written from document 01's definitions.
+//!
+//! rlc_tests [SEED [ROUNDS [FIRST]]]: the fixed parts, then rounds FIRST, FIRST + 1, ... of random ones. A round's inputs depend on
+//! the seed and its number only. Status 0 and a summary where all agrees; 1 at the first disagreement, or
+//! where a refusal or a pair of refusals was not reached.
+
+mod bounds;
+mod calls;
+mod cards;
+mod compare;
+mod counts;
+mod damaged;
+mod gen;
+mod ledger;
+mod lent;
+mod library;
+mod lists;
+mod pairs;
+mod reference;
+mod rng;
+mod selfcheck;
+mod trials;
+
+use compare::Tester;
+use rng::Rng;
+use std::time::Instant;
+
+const SEED: u64 = 1;
+const ROUNDS: u64 = 300;
+
+fn main() {
+    let arguments: Vec<u64> = std::env::args().skip(1).map(|word| word.parse().expect("a number")).collect();
+    let argument = |i: usize, default: u64| arguments.get(i).copied().unwrap_or(default);
+    let (seed, rounds, first) = (argument(0, SEED), argument(1, ROUNDS), argument(2, 1));
+    println!("seed {seed}, rounds {first} to {}", first + rounds - 1);
+    let begin = Instant::now();
+    selfcheck::run();
+    let mut t = Tester::new(seed);
+    trials::run(&mut t);
+    println!("trials: {} calls, {:.1} s", t.calls, begin.elapsed().as_secs_f64());
+    bounds::run(&mut t);
+    println!("bounds: {} calls, {:.1} s", t.calls, begin.elapsed().as_secs_f64());
+    for round in first..first + rounds {
+        t.round = round;
+        t.rng = Rng::new(seed.wrapping_mul(1_000_003).wrapping_add(round));
+        pairs::round(&mut t);
+        lists::round(&mut t);
+        damaged::round(&mut t);
+        cards::round(&mut t);
+    }
+    let missing = t.counts.report();
+    missing.iter().for_each(|line| println!("MISSING: {line}"));
+    let seconds = begin.elapsed().as_secs_f64();
+    println!(
+        "{} calls compared, seed {seed}, {rounds} rounds, {seconds:.1} s: {}",
+        t.calls,
+        if missing.is_empty() { "all agree" } else { "FAILED" }
+    );
+    std::process::exit(if missing.is_empty() { 0 } else { 1 });
+}

@@ -1,0 +1,254 @@
+//! For every call and every pair of its refusals, an input on which both apply, as far as there is one; and now and then a third.
+//! The compared calls say which refusals did apply, and the counts at the end which pairs were reached.
+
+use crate::calls::{card_of, Check, Memory, EDGES};
+use crate::compare::Tester;
+use crate::counts::{Call, ORDERS};
+use crate::gen::{self, Layout};
+use crate::reference::*;
+
+pub fn round(t: &mut Tester) {
+    t.part = "pairs";
+    for (call, order) in ORDERS {
+        for (i, first) in order.iter().enumerate() {
+            for other in &order[i..] {
+                let mut forced = vec![*first, *other];
+                if t.rng.one_in(4) {
+                    forced.push(t.rng.pick(order));
+                }
+                put(t, call, &forced);
+            }
+        }
+    }
+}
+
+/// A layout with at least 3 edges and at least 2 vertices: something can be wrong with each part of it.
+fn layout_and_edges(t: &mut Tester) -> (Layout, Vec<Edge>) {
+    loop {
+        let mut layout = gen::layout(&mut t.rng);
+        layout.record[0] = layout.record[0].max(3);
+        let count = t.rng.from_to(3, 20);
+        let edges = gen::edges(&mut t.rng, &layout, count);
+        if edges.len() >= 3 && edges.iter().any(|edge| edge.0.max(edge.2) > 0) {
+            return (layout, edges);
+        }
+    }
+}
+
+fn put(t: &mut Tester, call: Call, forced: &[u32]) {
+    match call {
+        Call::Open => open(t, forced),
+        Call::Insert => change(t, true, forced),
+        Call::Remove => change(t, false, forced),
+        Call::Query => query(t, forced),
+        Call::Search => search(t, forced),
+        Call::ReadCard => read_card(t, forced),
+        Call::WriteCard => write_card(t, forced),
+    }
+}
+
+fn force_record(t: &mut Tester, forced: &[u32], layout: &mut Layout) {
+    if forced.contains(&1) {
+        layout.record[0] = gen::no_vertices(&mut t.rng);
+    }
+    if forced.contains(&2) {
+        // Where entries are to be needed, k is too large and not 0.
+        let longest = gen::no_longest(&mut t.rng);
+        layout.record[1] = if forced.contains(&13) { longest.max(5) } else { longest };
+    }
+}
+
+/// Edge memory, for 3 of one of the kinds that leave room for the other refusals: an edge of a larger layout, too many
+/// slots, or (where no other condition looks into it) damaged slots.
+fn force_edges(t: &mut Tester, forced: &[u32], layout: &mut Layout, edges: &mut Vec<Edge>, full: bool) -> Vec<u32> {
+    let more = if full { 0 } else { t.rng.from_to(1, 4) };
+    if !forced.contains(&3) {
+        return gen::edge_memory(edges, edges.len() + more);
+    }
+    let looked_into = forced.iter().any(|number| [7, 8, 9, 13, 17].contains(number));
+    let kind = t.rng.below(if looked_into { 2 } else { 3 });
+    if kind == 0 && full && t.rng.one_in(4) {
+        *edges = gen::many_edges(&mut t.rng, EDGES + 1);
+        return gen::edge_memory(edges, EDGES + 1);
+    }
+    if kind == 0 && !full {
+        return gen::edge_memory(edges, t.rng.pick(&[EDGES + 1, EDGES + 1, 2 * EDGES]));
+    }
+    if kind < 2 {
+        let top = edges.iter().map(|edge| edge.0.max(edge.2)).max().unwrap();
+        layout.record[0] = top.max(1);
+        if top == 0 {
+            edges.push((2, 1, 2));
+        }
+        return gen::edge_memory(edges, edges.len() + more);
+    }
+    let mut memory = gen::edge_memory(edges, edges.len() + more);
+    while standing(&memory).is_some_and(|edges| edges_of_layout(&edges, layout.record[0])) {
+        gen::damage_edges(&mut t.rng, layout.record[0], &mut memory);
+    }
+    memory
+}
+
+/// Enough index slots for these edges, or for 13 too few; and work memory, for 4 too short.
+fn force_index(t: &mut Tester, forced: &[u32], needed: usize) -> (usize, usize) {
+    let few = t.rng.below(needed.max(1)).min(t.rng.pick(&[0, 1, 3, 20]));
+    let index = if forced.contains(&13) { few } else { needed + t.rng.below(4) };
+    let work =
+        if forced.contains(&4) { gen::short_work(&mut t.rng, index) } else { gen::enough_work(&mut t.rng, index) };
+    (index, work)
+}
+
+fn open(t: &mut Tester, forced: &[u32]) {
+    let (mut layout, _) = layout_and_edges(t);
+    force_record(t, forced, &mut layout);
+    let edges = if forced.contains(&3) { EDGES + t.rng.pick(&[1, 1, 2, 500]) } else { t.rng.pick(&[0, 1, 7, EDGES]) };
+    let index = t.rng.below(20);
+    let mut memory = gen::noise(&mut t.rng, edges, index, 0);
+    t.open(layout.record, &mut memory);
+}
+
+fn change(t: &mut Tester, insertion: bool, forced: &[u32]) {
+    let (mut layout, mut edges) = layout_and_edges(t);
+    let slots = force_edges(t, forced, &mut layout, &mut edges, forced.contains(&9));
+    let mut edge = gen::edge(&mut t.rng, &layout);
+    let stands = if insertion { forced.contains(&7) } else { !forced.contains(&8) };
+    while !stands && edges.contains(&edge) {
+        let labels = (1..=8).collect();
+        edge = gen::edge(&mut t.rng, &Layout { labels, ..layout.clone() });
+    }
+    if stands {
+        edge = t.rng.pick(&edges);
+    }
+    // A right index is lent, for the edges that stand or for those wanted, whichever is longer.
+    let mut wanted = edges.clone();
+    wanted.retain(|other| *other != edge);
+    if insertion {
+        wanted.push(edge);
+    }
+    let longest = layout.record[1];
+    let needed = determined_entries(&wanted, if forced.contains(&13) { longest.min(2) } else { longest }).len();
+    let (index, work) = force_index(t, forced, needed);
+    force_record(t, forced, &mut layout);
+    if forced.contains(&5) {
+        let bad = gen::no_vertex(&mut t.rng, layout.record[0]);
+        if t.rng.one_in(2) {
+            edge.0 = bad
+        } else {
+            edge.2 = bad
+        }
+    }
+    if forced.contains(&6) {
+        edge.1 = gen::no_wide_label(&mut t.rng);
+    }
+    let mut memory = gen::noise(&mut t.rng, 0, index, work);
+    memory.edges = slots;
+    t.change(insertion, layout.record, edge, &mut memory);
+}
+
+fn force_question(t: &mut Tester, forced: &[u32], layout: &Layout) -> Check {
+    let mut check = Check {
+        start: gen::vertex(&mut t.rng, layout),
+        destination: gen::vertex(&mut t.rng, layout),
+        pattern: gen::pattern(&mut t.rng, layout),
+        allowed: t.rng.pick(&[0, 1, 2, 1025]),
+    };
+    if forced.contains(&10) {
+        let high = if forced.contains(&1) { 65_536 } else { layout.record[0] };
+        let bad = gen::no_vertex(&mut t.rng, high);
+        if t.rng.one_in(2) {
+            check.start = bad
+        } else {
+            check.destination = bad
+        }
+    }
+    if forced.contains(&11) {
+        check.pattern = gen::bad_pattern(&mut t.rng, layout);
+    }
+    check
+}
+
+fn query(t: &mut Tester, forced: &[u32]) {
+    let (mut layout, edges) = layout_and_edges(t);
+    let check = force_question(t, forced, &layout);
+    let mut index = determined(&edges, layout.record[1]);
+    if t.rng.one_in(2) {
+        index = gen::any_index(&mut t.rng, &layout, 40);
+    }
+    index.push(0);
+    while forced.contains(&12) && is_index(&index, layout.record[0], layout.record[1]) {
+        gen::damage_index(&mut t.rng, layout.record, &mut index);
+    }
+    force_record(t, forced, &mut layout);
+    t.query(layout.record, check.start, check.destination, &check.pattern, &index);
+}
+
+fn search(t: &mut Tester, forced: &[u32]) {
+    let (mut layout, mut edges) = layout_and_edges(t);
+    let slots = force_edges(t, forced, &mut layout, &mut edges, false);
+    let check = force_question(t, forced, &layout);
+    let work = if forced.contains(&4) { gen::short_work(&mut t.rng, 0) } else { gen::enough_work(&mut t.rng, 0) };
+    force_record(t, forced, &mut layout);
+    let mut memory = gen::noise(&mut t.rng, 0, 0, work);
+    memory.edges = slots;
+    t.search(layout.record, &check, &mut memory);
+}
+
+fn read_card(t: &mut Tester, forced: &[u32]) {
+    let (mut layout, mut edges) = layout_and_edges(t);
+    let mut slots = edges.len() + t.rng.below(4);
+    if forced.contains(&3) && forced.contains(&9) {
+        layout.record = [256, t.rng.from_to(1, 2) as u32];
+        edges = gen::many_edges(&mut t.rng, EDGES + 20);
+        slots = EDGES + 1 + t.rng.below(19);
+    } else if forced.contains(&3) {
+        slots = EDGES + 1;
+    } else if forced.contains(&9) {
+        slots = t.rng.below(edges.len());
+    }
+    let longest = layout.record[1];
+    let needed = determined_entries(&edges, if forced.contains(&13) { longest.min(2) } else { longest }).len();
+    let (index, work) = force_index(t, forced, needed);
+    force_record(t, forced, &mut layout);
+    let mut card = card_of([layout.record[0].clamp(1, 256), layout.record[1].min(255)], &edges);
+    if forced.contains(&16) {
+        force_16(t, &mut card);
+    }
+    if forced.contains(&15) {
+        card[3..5].copy_from_slice(&t.rng.pick(&[[0, 0], [0, 2], [1, 0], [1, 1], [255, 255]]));
+    }
+    if forced.contains(&14) {
+        let others_in_card = forced.iter().any(|number| [15, 2, 16, 9, 13].contains(number));
+        if others_in_card || t.rng.one_in(2) {
+            card[t.rng.below(3)] ^= 1 << t.rng.below(8);
+        } else {
+            card.truncate(t.rng.below(9));
+        }
+    }
+    let mut memory = gen::noise(&mut t.rng, slots, index, work);
+    t.read_card(&card, &mut memory);
+}
+
+/// The length is wrong, or the edges do not rise, or one is none of this layout.
+fn force_16(t: &mut Tester, card: &mut Vec<u8>) {
+    let more = t.rng.pick(&[1, 2, 3]);
+    match t.rng.below(6) {
+        0 => card.extend(t.rng.bytes(more)),
+        1 => card.truncate(card.len() - more),
+        2 => card.copy_within(9..12, 12),
+        3 => card[10] = gen::no_label(&mut t.rng) as u8,
+        4 => card[5] = 0,
+        _ => card[8] += 1,
+    }
+}
+
+fn write_card(t: &mut Tester, forced: &[u32]) {
+    let (mut layout, mut edges) = layout_and_edges(t);
+    let slots = force_edges(t, forced, &mut layout, &mut edges, false);
+    force_record(t, forced, &mut layout);
+    let length = 9 + 3 * edges.len();
+    let any = t.rng.below(length);
+    let room = if forced.contains(&17) { t.rng.pick(&[0, 8, length - 1, any]) } else { length + t.rng.below(5) };
+    let mut output = t.rng.bytes(room);
+    let memory = Memory { edges: slots, ..Memory::default() };
+    t.write_card(layout.record, &memory.edges, &mut output);
+}

@@ -1,0 +1,181 @@
+//! Document 01's trial runs, with its own expectations, and Table II of document 004.
+
+use crate::calls::{Check, Memory, Record};
+use crate::compare::{Tester, SPENT, YES};
+use crate::gen;
+use crate::reference::*;
+
+pub const CARD_A: [u8; 18] =
+    [0x50, 0x52, 0x43, 0x00, 0x01, 0x02, 0x02, 0x00, 0x03, 0x00, 0x01, 0x01, 0x01, 0x01, 0x02, 0x01, 0x02, 0x00];
+pub const SLOTS_A: [u64; 5] = [18, 65537, 16842785, 4295032834, 4328587265];
+pub const LAYOUT_B: [Edge; 7] = [(0, 1, 2), (0, 1, 3), (0, 2, 4), (1, 1, 0), (5, 2, 1), (6, 2, 1), (7, 2, 1)];
+
+/// The graph of document 004's Fig. 2 with vertex v1 as 0, and its Table II: side, owner, hub, labels.
+pub const FIGURE_2: [Edge; 11] = [
+    (0, 1, 1),
+    (0, 2, 2),
+    (1, 1, 4),
+    (1, 2, 4),
+    (2, 1, 1),
+    (2, 1, 5),
+    (2, 2, 0),
+    (2, 2, 3),
+    (3, 1, 0),
+    (3, 3, 5),
+    (4, 1, 0),
+];
+#[rustfmt::skip]
+pub const TABLE_2: [(u64, u32, u32, &[u32]); 26] = [
+    (0, 1, 1, &[2]), (0, 1, 1, &[1]), (0, 1, 1, &[2, 1]),
+    (1, 2, 1, &[1]), (1, 2, 1, &[2, 1]), (0, 2, 1, &[2, 1]), (0, 2, 1, &[1]),
+    (1, 3, 1, &[2]), (1, 3, 1, &[1, 2]), (0, 3, 1, &[2]), (0, 3, 1, &[2, 1]), (0, 3, 1, &[1]), (0, 3, 3, &[1, 2]),
+    (1, 4, 1, &[2]), (0, 4, 1, &[1]), (0, 4, 3, &[1, 2]),
+    (1, 5, 1, &[1, 2]), (1, 5, 1, &[1]), (1, 5, 3, &[1, 2]), (1, 5, 2, &[2]), (0, 5, 1, &[1]), (0, 5, 3, &[1, 2]),
+    (1, 6, 1, &[2, 1]), (1, 6, 3, &[1]), (1, 6, 3, &[2, 3]), (1, 6, 4, &[3]),
+];
+
+/// Table II as index memory: vertices numbered from 0, rising.
+pub fn table_2_slots() -> Vec<u64> {
+    let mut slots: Vec<u64> =
+        TABLE_2.iter().map(|(side, owner, hub, l)| entry_number(*side, owner - 1, hub - 1, l)).collect();
+    slots.sort();
+    slots
+}
+
+pub fn run(t: &mut Tester) {
+    t.part = "trials";
+    layout_a(t);
+    layout_b(t);
+    limits(t);
+    table_2(t);
+}
+
+fn memory(t: &mut Tester, edges: usize, index: usize) -> Memory {
+    gen::noise(&mut t.rng, edges, index, 4096 + index)
+}
+
+fn layout_a(t: &mut Tester) {
+    let record: Record = [3, 2];
+    let mut a = memory(t, 1024, 1024);
+    let reply = t.read_card(&CARD_A, &mut a);
+    t.expect("card A", reply, (0, Some(record)));
+    t.expect("the edges of A", &a.edges[..4], &[257, 4354, 4608, 0]);
+    t.expect("the slots of A", &a.index[..5], &SLOTS_A[..]);
+    t.expect("the rest of index memory", a.index[5..].iter().all(|slot| *slot == 0), true);
+
+    let queries: [(u32, u32, &[u8], u32); 11] = [
+        (0, 2, &[1], YES),
+        (2, 0, &[1], 0),
+        (0, 0, &[1, 2], YES),
+        (0, 0, &[1], 0),
+        (0, 0, &[2, 1], 0),
+        (0, 2, &[1, 1], YES), // asked as 1
+        (2, 2, &[1], 0),
+        (0, 3, &[1], 10),
+        (3, 0, &[1], 10),
+        (0, 0, &[1, 2, 1], 11),
+        (0, 0, &[], 11),
+    ];
+    for (start, destination, pattern, expected) in queries {
+        let reply = t.query(record, start, destination, pattern, &a.index);
+        t.expect("a query in A", reply, expected);
+    }
+
+    let checks: [(u32, u32, &[u8], u32, (u32, u32)); 8] = [
+        (0, 2, &[1], 0, (SPENT, 0)),
+        (0, 2, &[1], 1, (SPENT, 1)),
+        (0, 2, &[1], 2, (YES, 2)),
+        (2, 0, &[1], 1, (0, 1)),
+        (0, 2, &[1, 1], 2, (YES, 2)), // asked as 1
+        (0, 3, &[1], 2, (10, 0)),
+        (2, 2, &[1], 2, (0, 1)),
+        (0, 0, &[1, 2, 1], 2, (11, 0)),
+    ];
+    for (start, destination, pattern, allowed, expected) in checks {
+        a.work = t.rng.words(4096);
+        let check = Check { start, destination, pattern: pattern.to_vec(), allowed };
+        let reply = t.search(record, &check, &mut a);
+        t.expect("a plain check in A", reply, expected);
+        let zero = a.work.iter().all(|word| *word == 0);
+        t.expect(
+            "work memory zero after a plain check, unless it is refused",
+            zero,
+            expected.1 != 0 || expected.0 == SPENT,
+        );
+    }
+
+    a.work = t.rng.words(5120);
+    let reply = t.change(true, record, (0, 1, 1), &mut a);
+    t.expect("laying 0-1-1 in A", reply, 7);
+
+    for (slots, expected) in [(5, 0), (4, 13)] {
+        let mut a = memory(t, 3, slots);
+        let reply = t.read_card(&CARD_A, &mut a).0;
+        t.expect("card A in few index slots", reply, expected);
+        t.expect("work memory zero afterwards", a.work.iter().all(|word| *word == 0), true);
+    }
+
+    let mut output = t.rng.bytes(20);
+    let reply = t.write_card(record, &a.edges, &mut output);
+    t.expect("card A written", reply, (0, 18));
+    t.expect("card A's bytes", &output[..18], &CARD_A[..]);
+
+    for (pattern, length) in
+        [(&[1u8, 2, 1, 2][..], 2), (&[1, 2, 1], 3), (&[1, 1], 1), (&[1, 2, 1, 1], 4), (&[7, 7, 7, 7], 1)]
+    {
+        let reply = t.minimum_repeat(pattern);
+        t.expect("a minimum repeat", reply, length);
+    }
+}
+
+fn layout_b(t: &mut Tester) {
+    let card = crate::calls::card_of([8, 1], &LAYOUT_B);
+    for (slots, read, removed) in [(6, 13, 8), (7, 0, 13), (8, 0, 0)] {
+        let mut b = memory(t, 7, slots);
+        let reply = t.read_card(&card, &mut b).0;
+        t.expect("layout B", reply, read);
+        if read == 0 {
+            let filled = b.index.iter().filter(|slot| **slot != 0).count();
+            t.expect("the entries of layout B", filled, 7);
+            b.work = t.rng.words(4096 + slots);
+            let reply = t.change(false, [8, 1], (0, 2, 4), &mut b);
+            t.expect("lifting 0-2-4 in layout B", reply, removed);
+        }
+    }
+
+    // One vertex, k 1, edge 0-1-0: one slot, 1.
+    let mut one = memory(t, 1, 1);
+    let reply = t.open([1, 1], &mut one);
+    t.expect("one vertex", reply, 0);
+    let reply = t.change(true, [1, 1], (0, 1, 0), &mut one);
+    t.expect("one edge", reply, 0);
+    t.expect("its slot", one.index[0], 1);
+}
+
+fn limits(t: &mut Tester) {
+    for (record, expected) in [([256, 4], 0), ([257, 4], 1), ([256, 5], 2), ([257, 5], 1)] {
+        let mut memory = memory(t, 4, 4);
+        let reply = t.open(record, &mut memory);
+        t.expect("an opening at the limits", reply, expected);
+        if expected == 0 {
+            let reply = t.change(true, record, (255, 8, 255), &mut memory);
+            t.expect("an insertion at the limits", reply, 0);
+            t.expect("its slots", &memory.index[..], &[0xFFFF_0008, 0, 0, 0]);
+            let reply = t.query(record, 255, 255, &[8, 8, 8, 8], &memory.index);
+            t.expect("a query at the limits", reply, YES);
+        }
+    }
+}
+
+/// Read as a card, as the counted access order of this graph is the paper's.
+fn table_2(t: &mut Tester) {
+    let card = crate::calls::card_of([6, 2], &FIGURE_2);
+    for (slots, expected) in [(25, 13), (26, 0)] {
+        let mut memory = memory(t, 11, slots);
+        let reply = t.read_card(&card, &mut memory).0;
+        t.expect("the graph of Fig. 2", reply, expected);
+        if expected == 0 {
+            t.expect("Table II", &memory.index, &table_2_slots());
+        }
+    }
+}
