@@ -1,4 +1,5 @@
-//! The boundaries: numbers of vertices, longest patterns, slots and bytes at which an answer changes, and the largest layouts.
+//! The boundaries: numbers of vertices, longest patterns, slots and bytes at which an answer changes, and the
+//! largest layouts.
 
 use crate::calls::{card_of, Check, Memory, EDGES};
 use crate::compare::{Tester, SPENT, YES};
@@ -17,6 +18,8 @@ pub fn run(t: &mut Tester) {
     largest(t);
     longest_search(t);
     record_lengths(t);
+    joins(t);
+    aliases(t);
 }
 
 fn headers(t: &mut Tester) {
@@ -130,7 +133,8 @@ fn cards(t: &mut Tester) {
     }
 }
 
-/// 256 vertices and 1,024 edges, k 4: an index of some hundred thousand entries, one slot too few, and full edge memory.
+/// 256 vertices and 1,024 edges, k 4: an index of some hundred thousand entries, one slot too few, and full
+/// edge memory.
 fn largest(t: &mut Tester) {
     for labels in [8, 2] {
         let edges: Vec<Edge> = {
@@ -220,5 +224,53 @@ fn record_lengths(t: &mut Tester) {
         let more = card.guards_hold() && output.guards_hold() && pattern.guards_hold();
         t.expect("nothing touched after 255", untouched && rest && guards && more, true);
         t.calls += 7;
+    }
+}
+
+/// Two entries that meet at each hub, between entries that miss it by hub, by pattern, by owner or by side.
+fn joins(t: &mut Tester) {
+    for hub in 0..256 {
+        for pattern in [&[1][..], &[8, 7], &[5, 5, 6], &[1, 8, 1, 2]] {
+            let labels: Vec<u8> = pattern.iter().map(|label| *label as u8).collect();
+            let (start, destination) = (t.rng.below(256) as u32, t.rng.below(256) as u32);
+            let near = [hub.max(1) - 1, (hub + 1).min(255), t.rng.below(256) as u32];
+            let mut index = vec![entry_number(0, start, hub, &[2]), entry_number(1, destination, hub, &[2, 1])];
+            for other in near.into_iter().filter(|other| *other != hub) {
+                let side = t.rng.below(2) as u64;
+                index.push(entry_number(side, if side == 0 { start } else { destination }, other, pattern));
+                index.push(entry_number(0, destination.max(1) - 1, other, pattern));
+            }
+            let halves = [entry_number(0, start, hub, pattern), entry_number(1, destination, hub, pattern)];
+            for kept in [0, 1, 2, 3] {
+                let mut index = index.clone();
+                index.extend(halves.iter().enumerate().filter(|(i, _)| kept >> i & 1 == 1).map(|(_, entry)| entry));
+                index.sort();
+                index.dedup();
+                let reply = t.query([256, 4], start, destination, &labels, &index);
+                t.expect("a yes where two entries meet", kept == 3 && reply != YES, false);
+            }
+        }
+    }
+}
+
+/// Ends and labels that would name a standing edge if they were not checked first.
+fn aliases(t: &mut Tester) {
+    let edges = [(0, 2, 0), (1, 1, 2), (2, 1, 1)];
+    let named = [
+        ((0, 1, 256), 5),
+        ((0, 18, 0), 6),
+        ((256, 2, 0), 5),
+        ((0, 17, 2), 6),
+        ((1, 17, 1), 6),
+        ((1, 1, 258), 5),
+        ((0, 258, 0), 6),
+    ];
+    for (edge, expected) in named {
+        for insertion in [true, false] {
+            let mut memory = gen::noise(&mut t.rng, 0, 60, 4156);
+            memory.edges = gen::edge_memory(&edges, 5);
+            let reply = t.change(insertion, [256, 2], edge, &mut memory);
+            t.expect("an edge that is none", reply, expected);
+        }
     }
 }

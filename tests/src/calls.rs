@@ -2,8 +2,9 @@
 //! order: the first is the reply, an empty list is acceptance. What the others are good for is the count of pairs
 //! of refusals that applied at once.
 //!
-//! A later condition is judged as far as it has a meaning where an earlier one applies: 7, 8, 9, 13 and 17 where edge memory
-//! reads as rising edges of some layout, and 13 by patterns of at most 2 labels (longer ones only add entries).
+//! A later condition is judged as far as it has a meaning where an earlier one applies: 7, 8, 9, 13 and 17
+//! where edge memory reads as rising edges of some layout, and 13 by patterns of at most 2 labels (longer ones
+//! only add entries).
 
 use crate::reference::*;
 use std::collections::BTreeSet;

@@ -29,8 +29,7 @@ impl Tester {
     /// Ends the run: the seed and round say how to see this again.
     pub fn fail(&self, call: &str, what: &str, expected: String, got: String) -> ! {
         println!("FAILED: seed {} round {} part {} call number {}", self.seed, self.round, self.part, self.calls);
-        // The largest memories are cut: the seed and round give them whole.
-        println!("  call: {}", call.chars().take(6000).collect::<String>());
+        println!("  call: {call}");
         println!("  {what}: expected {expected}");
         println!("  {what}: got      {got}");
         std::process::exit(1);
@@ -122,7 +121,7 @@ impl Tester {
         let expected = self.count(Call::Query, &refusals) + if yes { YES } else { 0 };
         let (p, i) = ((lent_pattern.pointer(), lent_pattern.len()), (lent_index.pointer(), lent_index.len()));
         let got = unsafe { rlc_query(lent_record.pointer(), 2, start, destination, p.0, p.1, i.0, i.1) };
-        let call = || format!("query {record:?} {start} {destination} {pattern:?} index {index:?}");
+        let call = || format!("query {record:?} {start} {destination} {pattern:?} index {}", slots(index));
         self.same_reply(&call, got, expected);
         self.same(&call, "record", &lent_record, &record);
         self.same(&call, "pattern", &lent_pattern, pattern);
@@ -169,7 +168,8 @@ impl Tester {
         let (c, e) = ((lent_card.pointer(), lent_card.len()), (edges.pointer(), edges.len()));
         let (i, w) = ((index.pointer(), index.len()), (work.pointer(), work.len()));
         let got = unsafe { rlc_read_card(lent_record.pointer(), 2, c.0, c.1, e.0, e.1, i.0, i.1, w.0, w.1) };
-        let call = || format!("read_card {card:02x?} {}", show(&before));
+        let call =
+            || format!("read_card {:02x?} of {} bytes, {}", &card[..card.len().min(400)], card.len(), show(&before));
         self.same_reply(&call, got, expected);
         self.same(&call, "record", &lent_record, &record.unwrap_or(given));
         self.same(&call, "card", &lent_card, card);
@@ -190,7 +190,7 @@ impl Tester {
         let (e, o) = ((lent_edges.pointer(), lent_edges.len()), (lent_output.pointer(), lent_output.len()));
         let got = unsafe { rlc_write_card(lent_record.pointer(), 2, e.0, e.1, o.0, o.1) };
         let got = ((got >> 32) as u32, got as u32 as usize);
-        let call = || format!("write_card {record:?} edges {edges:?} output of {}", o.1);
+        let call = || format!("write_card {record:?} edges {} output of {}", slots(edges), o.1);
         self.same_reply(&call, got, expected);
         self.same(&call, "record", &lent_record, &record);
         self.same(&call, "edge memory", &lent_edges, edges);
@@ -213,5 +213,12 @@ impl Tester {
 
 /// Memory for a failure's line; of work memory the length, as its content is noise.
 fn show(memory: &Memory) -> String {
-    format!("edges {:?} index {:?} work of {}", memory.edges, memory.index, memory.work.len())
+    format!("edges {} index {} work of {}", slots(&memory.edges), slots(&memory.index), memory.work.len())
+}
+
+/// The first slots of a memory, as far as they are not zero, and its length.
+fn slots<T: Debug + PartialEq + Default>(memory: &[T]) -> String {
+    let filled = memory.iter().rposition(|slot| *slot != T::default()).map_or(0, |last| last + 1);
+    let more = if filled > 100 { ", ..." } else { "" };
+    format!("{:?}{more} (of {})", &memory[..filled.min(100)], memory.len())
 }

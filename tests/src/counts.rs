@@ -1,4 +1,5 @@
-//! How often each call was accepted, gave each refusal, and had each pair of refusals apply at once (the earlier one returned).
+//! How often each call was accepted, gave each refusal, and had each pair of refusals apply at once (the
+//! earlier one returned).
 
 use std::collections::BTreeMap;
 

@@ -1,4 +1,5 @@
-//! Calls on memory that was left by calls, that holds other right content, and that is damaged, with right and wrong arguments.
+//! Calls on memory that was left by calls, that holds other right content, and that is damaged, with right and
+//! wrong arguments.
 
 use crate::calls::{Check, Memory, Record};
 use crate::compare::Tester;

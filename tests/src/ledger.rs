@@ -1,5 +1,5 @@
-//! Document 01's ledger, a plain machine of its own: it holds vertices, longest and a set of edges, is fed what each call is given
-//! and how many slots are lent, and is shown no reply and no memory.
+//! Document 01's ledger, a plain machine of its own: it holds vertices, longest and a set of edges, is fed
+//! what each call is given and how many slots are lent, and is shown no reply and no memory.
 
 use crate::calls::Record;
 use crate::reference::{determined, edge_number, Edge};

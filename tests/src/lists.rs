@@ -1,5 +1,6 @@
-//! Random lists of openings, insertions, removals and card readings, refused ones among them, held to the ledger after each
-//! call; and queries and plain checks on the memory that they leave, whole and with entries struck out.
+//! Random lists of openings, insertions, removals and card readings, refused ones among them, held to the
+//! ledger after each call; and queries and plain checks on the memory that they leave, whole and with entries
+//! struck out.
 
 use crate::calls::{card_of, folded, Check, Memory, Record};
 use crate::cards;

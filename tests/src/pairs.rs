@@ -1,5 +1,6 @@
-//! For every call and every pair of its refusals, an input on which both apply, as far as there is one; and now and then a third.
-//! The compared calls say which refusals did apply, and the counts at the end which pairs were reached.
+//! For every call and every pair of its refusals, an input on which both apply, as far as there is one; and
+//! now and then a third. The compared calls say which refusals did apply, and the counts at the end which
+//! pairs were reached.
 
 use crate::calls::{card_of, Check, Memory, EDGES};
 use crate::compare::Tester;
@@ -12,11 +13,11 @@ pub fn round(t: &mut Tester) {
     for (call, order) in ORDERS {
         for (i, first) in order.iter().enumerate() {
             for other in &order[i..] {
-                let mut forced = vec![*first, *other];
+                put(t, call, &[*first, *other]);
                 if t.rng.one_in(4) {
-                    forced.push(t.rng.pick(order));
+                    let third = t.rng.pick(order);
+                    put(t, call, &[*first, *other, third]);
                 }
-                put(t, call, &forced);
             }
         }
     }
@@ -58,8 +59,8 @@ fn force_record(t: &mut Tester, forced: &[u32], layout: &mut Layout) {
     }
 }
 
-/// Edge memory, for 3 of one of the kinds that leave room for the other refusals: an edge of a larger layout, too many
-/// slots, or (where no other condition looks into it) damaged slots.
+/// Edge memory, for 3 of one of the kinds that leave room for the other refusals: an edge of a larger layout,
+/// too many slots, or (where no other condition looks into it) damaged slots.
 fn force_edges(t: &mut Tester, forced: &[u32], layout: &mut Layout, edges: &mut Vec<Edge>, full: bool) -> Vec<u32> {
     let more = if full { 0 } else { t.rng.from_to(1, 4) };
     if !forced.contains(&3) {
