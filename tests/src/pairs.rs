@@ -23,7 +23,8 @@ pub fn round(t: &mut Tester) {
     }
 }
 
-/// A layout with at least 3 edges and at least 2 vertices: something can be wrong with each part of it.
+/// A layout with at least 3 vertices and 3 edges, one of them not at vertex 0 alone: something can be wrong with each
+/// part of it.
 fn layout_and_edges(t: &mut Tester) -> (Layout, Vec<Edge>) {
     loop {
         let mut layout = gen::layout(&mut t.rng);
@@ -77,10 +78,7 @@ fn force_edges(t: &mut Tester, forced: &[u32], layout: &mut Layout, edges: &mut 
     }
     if kind < 2 {
         let top = edges.iter().map(|edge| edge.0.max(edge.2)).max().unwrap();
-        layout.record[0] = top.max(1);
-        if top == 0 {
-            edges.push((2, 1, 2));
-        }
+        layout.record[0] = top;
         return gen::edge_memory(edges, edges.len() + more);
     }
     let mut memory = gen::edge_memory(edges, edges.len() + more);
@@ -113,21 +111,23 @@ fn change(t: &mut Tester, insertion: bool, forced: &[u32]) {
     let slots = force_edges(t, forced, &mut layout, &mut edges, forced.contains(&9));
     let mut edge = gen::edge(&mut t.rng, &layout);
     let stands = if insertion { forced.contains(&7) } else { !forced.contains(&8) };
-    while !stands && edges.contains(&edge) {
-        let labels = (1..=8).collect();
-        edge = gen::edge(&mut t.rng, &Layout { labels, ..layout.clone() });
+    let all_labels = Layout { labels: (1..=8).collect(), ..layout.clone() };
+    for _ in 0..100 {
+        if !stands && edges.contains(&edge) {
+            edge = gen::edge(&mut t.rng, &all_labels);
+        }
     }
     if stands {
         edge = t.rng.pick(&edges);
     }
-    // A right index is lent, for the edges that stand or for those wanted, whichever is longer.
     let mut wanted = edges.clone();
     wanted.retain(|other| *other != edge);
     if insertion {
         wanted.push(edge);
     }
     let longest = layout.record[1];
-    let needed = determined_entries(&wanted, if forced.contains(&13) { longest.min(2) } else { longest }).len();
+    let judged = if forced.contains(&13) || forced.contains(&3) { longest.min(2) } else { longest };
+    let needed = determined_entries(&wanted, judged).len();
     let (index, work) = force_index(t, forced, needed);
     force_record(t, forced, &mut layout);
     if forced.contains(&5) {
