@@ -27,7 +27,7 @@ use rng::Rng;
 use std::time::Instant;
 
 const SEED: u64 = 1;
-const ROUNDS: u64 = 300;
+const ROUNDS: u64 = 600;
 
 fn main() {
     let arguments: Vec<u64> = std::env::args().skip(1).map(|word| word.parse().expect("a number")).collect();

@@ -100,6 +100,9 @@ impl Graph {
     /// The vertices that a walk running the pattern joins `start` to, one edge or more: reachability in the graph of
     /// (vertex, labels used so far modulo the pattern's length).
     pub fn run_from(&self, start: usize, pattern: &[u32]) -> Vec<usize> {
+        if self.next.get(&pattern[0]).is_none_or(|rows| rows[start].is_empty()) {
+            return vec![]; // no first edge
+        }
         let mut seen = vec![false; self.vertices * pattern.len()];
         let mut open = vec![(start, 0)];
         while let Some((vertex, used)) = open.pop() {
