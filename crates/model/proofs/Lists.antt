@@ -93,6 +93,12 @@ module _ {A : Type 0} {R : A → A → Type 0} where
   sorted-imp f none = none
   sorted-imp f (next {x = x} h s) = next (λ z m. f x z (h z m)) (sorted-imp f s)
 
+  -- by another order that follows for the list's elements
+  pub sorted-as : {S : A → A → Type 0} {l : List A} → ((x z : A) → List·Memᴰ x l → List·Memᴰ z l → R x z → S x z) → Sorted R l → Sorted S l
+  sorted-as f none = none
+  sorted-as f (next {x = x} h s) =
+      next (λ z m. f x z (List·Memᴰ·head refl) (List·Memᴰ·tail m) (h z m)) (sorted-as (λ y z a b. f y z (List·Memᴰ·tail a) (List·Memᴰ·tail b)) s)
+
   pub sorted-append : {l m : List A} → Sorted R l → Sorted R m → ((x z : A) → List·Memᴰ x l → List·Memᴰ z m → R x z) → Sorted R (l ++ m)
   sorted-append none r f = r
   sorted-append (next {x = x} {l = l} h s) r f =
@@ -117,6 +123,11 @@ pub getD-in : (l : List ℕ) (i : ℕ) → i < length l → List·Memᴰ (getD l
 getD-in [] i h = absurd (not-suc-le-zero h)
 getD-in (x ∷ l) zero h = List·Memᴰ·head refl
 getD-in (x ∷ l) (suc i) h = List·Memᴰ·tail (getD-in l i (le-of-suc-le-suc h))
+
+pub getD-map : (f : ℕ → ℕ) (l : List ℕ) (i : ℕ) → i < length l → getD (map f l) i 0 ≡ f (getD l i 0)
+getD-map f [] i h = absurd (not-suc-le-zero h)
+getD-map f (x ∷ l) zero h = refl
+getD-map f (x ∷ l) (suc i) h = getD-map f l i (le-of-suc-le-suc h)
 
 -- where an element stands
 pub record Index (l : List ℕ) (x : ℕ) : Type 0 where

@@ -1,4 +1,4 @@
--- Laws of ranks: an order that names each vertex once is known by its ranks, and in the counted order a rank is how many vertices come before.
+-- Laws of ranks: in an order that names each vertex once, each stands at its rank and is known by it.
 -- Before them, laws of counting by a test, and what a self-edge counts.
 use mathlib.Core.Path.{_≡_, refl, sym, ap, _∙_}
 use mathlib.Core.Logic.{_⊎_, inl, inr, ⊎-elim, _≢_}
@@ -12,11 +12,11 @@ use lib.Dec.{T, eqb}
 use lib.ListN.{length, getD, take}
 use lib.Seq.{getD-take, length-take-le, ext-getD}
 use Rattle.model.specs.Lists.{_∈_, put, keep, upTo, Sorted, none, next}
-use Rattle.model.specs.Edges.{Graph, bare, edgeNumber, fromOf, toOf}
-use Rattle.model.specs.Order.{outDegree, inDegree, weight, Before, counted, rank, Names}
+use Rattle.model.specs.Edges.{bare, edgeNumber, fromOf, toOf}
+use Rattle.model.specs.Order.{outDegree, inDegree, rank, Names}
 use Rattle.model.proofs.Tests.{Tests, test-true, test-false, test-not, test-eq}
 use Rattle.model.proofs.Lists.{keep-in, keep-out, up-to, below, length-from, rising-from, sorted-keep, sorted-imp, getD-in}
-use Rattle.model.proofs.Order.{not-both, rank-here, rank-there, rank-same, counted-sorted, counted-names}
+use Rattle.model.proofs.Order.{rank-here, rank-there, rank-same}
 
 -- ---- how many elements pass a test
 
@@ -137,39 +137,12 @@ module _ {n : ℕ} {order : List ℕ} (o : Names n order) where
   pub at-rank : {v : ℕ} → v < n → getD order (rank order v) 0 ≡ v
   at-rank {v} h = let k = rank-small h in rank-same o (vertex-small (rank order v) k) h (rank-at (rank order v) k)
 
-  -- a list that has each vertex at its rank starts with the order
-  pub by-ranks : (l : List ℕ) → n ≤ length l → ((v : ℕ) → v < n → getD l (rank order v) 0 ≡ v) → take n l ≡ order
-  by-ranks l h f = ext-getD 0 (take n l) order (long ∙ sym names-length) (λ i k. same i (omega (arith, long)))
+  -- a list that has the order's vertices in their places starts with the order
+  pub by-places : (l : List ℕ) → n ≤ length l → ((i : ℕ) → i < n → getD l i 0 ≡ getD order i 0) → take n l ≡ order
+  by-places l h f = ext-getD 0 (take n l) order (long ∙ sym names-length) (λ i k. same i (omega (arith, long)))
     where
       long : length (take n l) ≡ n
       long = length-take-le n l h
 
       same : (i : ℕ) → i < n → getD (take n l) i 0 ≡ getD order i 0
-      same i k = getD-take n l i 0 k ∙ rw (rank-at i k) at (f (getD order i 0) (vertex-small i k))
-
--- ---- ranks in the counted order
-
-module _ {w : ℕ → ℕ} {v : ℕ} {f : ℕ → Bool} where
-  -- in a sorted list, as many vertices stand before v as come before it
-  rank-count : {l : List ℕ} → Sorted (Before w) l → v ∈ l → ((u : ℕ) → u ∈ l → Tests (f u) (Before w u v)) → rank l v ≡ length (keep f l)
-  rank-count none h t = absurd (List·Memᴰ·not-nil h)
-  rank-count (next {x = z} {l = l} g s) h t = go (λ k. rank-count s k (λ u m. t u (List·Memᴰ·tail m))) (List·Memᴰ·cases-cons h)
-    where
-      never : {x y : ℕ} → Before w x y → x ≢ y
-      never b e = not-both b (rw e (rw e at b))
-
-      go : (v ∈ l → rank l v ≡ length (keep f l)) → (v ≡ z) ⊎ (v ∈ l) → rank (z ∷ l) v ≡ length (keep f (z ∷ l))
-      go r (inl e) = rank-here w v z l e ∙ sym (keep-none f (z ∷ l) (λ u m p. none-before u m ((t u m) .yields p)))
-        where
-          none-before : (u : ℕ) → u ∈ z ∷ l → ¬ Before w u v
-          none-before u m b = ⊎-elim (λ i. never b (i ∙ sym e)) (λ k. not-both b (rw (sym e) at (g u k))) (List·Memᴰ·cases-cons m)
-      go r (inr k) =
-          let before = test-true (t z (List·Memᴰ·head refl)) (g v k) in
-          omega (arith, rank-there w v z l (λ e. never (g v k) (sym e)), keep-more f z l, ap one before, r k)
-
--- a vertex's rank is the number of vertices before it
-pub rank-counted : (g : Graph) {v : ℕ} {f : ℕ → Bool} → v < g .vertices → ((u : ℕ) → u < g .vertices → Tests (f u) (Before (weight g) u v))
-    → rank (counted g) v ≡ length (keep f (upTo (g .vertices)))
-rank-counted g {v} {f} h t =
-    let o = counted-names g in
-    rank-count (counted-sorted g) (o .each v h) (λ u m. t u (o .only u m)) ∙ names-count o f
+      same i k = getD-take n l i 0 k ∙ f i k

@@ -1,4 +1,4 @@
 pub mod Tally
-pub mod Ranking
-pub mod Weighing
-pub mod Placing
+pub mod Keying
+pub mod Keys
+pub mod Reading

@@ -1,8 +1,7 @@
 -- Staged entries put back one by one, and what stays true of them: they are distinct and narrow.
-use mathlib.Core.Path.{_≡_, refl, sym, ap, _∙_}
-use mathlib.Core.List.{List, [], _∷_, map, Memᴰ·of-map}
-use Prim.Native.Nat.{ℕ, zero, suc, _+_, _<_, _^_}
-use native.Mathlib.Nat.{le-of-suc-le-suc, not-suc-le-zero}
+use mathlib.Core.Path.{_≡_, sym, ap, _∙_}
+use mathlib.Core.List.{List, map, Memᴰ·of-map}
+use Prim.Native.Nat.{ℕ, _+_, _<_, _^_}
 use native.Mathlib.Omega.{arith}
 use lib.ListN.{length, getD, set, length-map}
 use Rattle.model.specs.Lists.{_∈_}
@@ -11,17 +10,12 @@ use Rattle.model.specs.Order.{rank, Names}
 use Rattle.model.specs.Entries.{entryOf}
 use Rattle.model.specs.Query.{sideOf, ownerOf, hubOf, codeOf}
 use Rattle.model.specs.Renumber.{translate}
-use Rattle.model.proofs.Lists.{getD-in}
+use Rattle.model.proofs.Lists.{getD-in, getD-map}
 use Rattle.model.proofs.Ranks.{rank-at, names-length}
 use Rattle.model.proofs.Renumber.{entry-fields}
 use Rattle.sort.specs.Order.{Distinct, Narrow}
 use Rattle.edges.proofs.Mix.{Mixed, front-none, front-turn}
 use Rattle.output.specs.Output.{Translatable}
-
-getD-map : (f : ℕ → ℕ) (l : List ℕ) (i : ℕ) → i < length l → getD (map f l) i 0 ≡ f (getD l i 0)
-getD-map f [] i h = absurd (not-suc-le-zero h)
-getD-map f (x ∷ l) zero h = refl
-getD-map f (x ∷ l) (suc i) h = getD-map f l i (le-of-suc-le-suc h)
 
 -- ---- a loop that puts f x for each x
 
