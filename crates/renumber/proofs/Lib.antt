@@ -1,3 +1,4 @@
 pub mod Inverting
 pub mod Filling
 pub mod Renumbering
+pub mod Visiting
