@@ -28,11 +28,3 @@ plus-map f = plus-flat (λ a b s. one (f a b s))
 
 pub plus-as : {R S : ℕ → ℕ → Type 0} → ((a b : ℕ) → R a b ↔ S a b) → (a b : ℕ) → Plus R a b ↔ Plus S a b
 plus-as f a b = (plus-map (λ m n. f m n .0), plus-map (λ m n. f m n .1))
-
--- ---- steps turned round
-turn : {R S : ℕ → ℕ → Type 0} → ((a b : ℕ) → S a b → R b a) → {a b : ℕ} → Plus S a b → Plus R b a
-turn f (one s) = one (f _ _ s)
-turn f (more s q) = plus-then (turn f q) (one (f _ _ s))
-
-pub plus-turned : {R S : ℕ → ℕ → Type 0} → ((a b : ℕ) → S a b ↔ R b a) → (a b : ℕ) → Plus S a b ↔ Plus R b a
-plus-turned f a b = (turn (λ m n. f m n .0), turn (λ m n. f n m .1))

@@ -25,8 +25,7 @@ use Rattle.closure.proofs.Plus.{plus-as}
 use Rattle.staging.specs.Stage.{Outcome}
 use Rattle.staging.proofs.Adding.{adds-none, outcome-as, outcome-then, over-as}
 use Rattle.relation.specs.Relation.{Led}
-use Rattle.hubs.specs.Finish.{Spared}
-use Rattle.hubs.specs.Pattern.{Either, out, into, Patternable, Patterned}
+use Rattle.hubs.specs.Pattern.{Spared, Either, out, into, Patternable, Patterned}
 use Rattle.hubs.proofs.Patterning.{spared-then, spared-row}
 use Rattle.endings.specs.Endings.{Leads, Picks, wordOf, baseOf, Chosen, Parent, Children, Child, Level, Leafed, Leaved}
 use Rattle.endings.proofs.Picks.{one-pattern, no-picks}

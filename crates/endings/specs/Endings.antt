@@ -14,7 +14,7 @@ use Rattle.rows.specs.Room.{parentRows, childRows, rootRow}
 use Rattle.steps.specs.Steps.{Ready, Trail, Sourced}
 use Rattle.closure.specs.Closing.{Plus}
 use Rattle.staging.specs.Stage.{Outcome}
-use Rattle.hubs.specs.Finish.{Spared}
+use Rattle.hubs.specs.Pattern.{Spared}
 
 -- the labels lead from vertex a to vertex b
 pub record Leads (edges l : List ℕ) (a b : ℕ) : Type 0 where

@@ -1,4 +1,4 @@
--- The two sides of one pattern, one after the other.
+-- The entries of one pattern: filled, closed, staged on both sides, emptied.
 use mathlib.Core.Path.{_≡_, sym, _∙_}
 use mathlib.Core.List.{List}
 use mathlib.Core.Logic.{_⊎_, inl, inr, ⊎-elim, _↔_}
@@ -8,19 +8,18 @@ use lib.ListN.{length, getD}
 use Rattle.model.specs.Limits.{mostVertices, leastWork, hubUnit}
 use Rattle.model.specs.Entries.{entryOf}
 use Rattle.model.specs.Hubs.{Picked}
-use Rattle.model.proofs.Hubs.{picked-as}
 use Rattle.rows.specs.Rows.{cell, On, Step}
-use Rattle.rows.specs.Room.{endsRow, parentRows, tempRows}
+use Rattle.rows.specs.Room.{openRow, todoRow, pickedRow, tempRows}
 use Rattle.rows.proofs.Rows.{same-row}
-use Rattle.closure.specs.Closing.{Plus, one, more}
-use Rattle.closure.proofs.Plus.{plus-as, plus-turned, plus-map}
-use Rattle.staging.specs.Stage.{Outcome}
-use Rattle.staging.proofs.Adding.{outcome-as, outcome-since, outcome-then, over-as}
-use Rattle.relation.specs.Relation.{Led, Fillable, Forth, Back}
-use Rattle.hubs.specs.Finish.{Spared, Finishable, Finished}
-use Rattle.hubs.specs.Pattern.{Either, out, into, Patternable, Patterned}
+use Rattle.closure.specs.Closing.{Plus, Closable, Closed}
+use Rattle.closure.proofs.Plus.{plus-then, plus-from, plus-as}
+use Rattle.staging.specs.Stage.{Outcome, Hubbed, Outward, Stageable, Transits, Stages}
+use Rattle.staging.proofs.Adding.{outcome-as, outcome-kept, outcome-since, outcome-then, over-as}
+use Rattle.relation.specs.Relation.{Led, Forth}
+use Rattle.clearing.specs.Clearing.{Wipeable, Wiped}
+use Rattle.hubs.specs.Pattern.{Spared, Sided, Either, out, into, Patternable, Patterned}
 
--- ---- what is spared
+-- ---- what is spared, for callers
 
 pub spared-then : {w w′ w″ : List ℕ} → Spared w w′ → Spared w′ w″ → Spared w w″
 spared-then s t = record { len = t .len ∙ s .len; same = λ k h l m. t .same k h l m ∙ s .same k h l m }
@@ -28,143 +27,173 @@ spared-then s t = record { len = t .len ∙ s .len; same = λ k h l m. t .same k
 pub spared-row : {w w′ : List ℕ} → Spared w w′ → (r : ℕ) → mostVertices ≤ r → r < tempRows → (j : ℕ) → j < mostVertices → cell w′ r j ≡ cell w r j
 spared-row {w} {w′} s r h l = same-row w w′ r (λ k q. s .same (r * 4 + k) (omega arith) (omega arith) (omega arith))
 
--- ---- the entries of the two sides are not the same
+-- ---- memory that differs in row `picked` and behind number 4,096 only
 
-led-ends : {edges w : List ℕ} {label a b : ℕ} → Plus (Led edges w label) a b → (a < mostVertices) × (b < mostVertices)
-led-ends (Plus.one h) = (h .from, h .to)
-led-ends (Plus.more h p) = (h .from, led-ends p .1)
+rows-same : {w w′ : List ℕ} {P : ℕ → Type 0} {slots cnt r : ℕ} → Stages w P slots cnt w′ r
+    → (q : ℕ) → q < 1024 → (q ≡ pickedRow → ⊥) → (j : ℕ) → j < mostVertices → cell w′ q j ≡ cell w q j
+rows-same {w} {w′} s q h n = same-row w w′ q (λ k l. s .kept (q * 4 + k) (omega arith) (λ e. n (omega arith)))
 
-sides-apart : {edges w : List ℕ} {label code : ℕ} → code < hubUnit → (e : ℕ)
-    → Picked (λ u y. Plus (Led edges w label) y u) 0 code e → Picked (Plus (Led edges w label)) 1 code e → ⊥
-sides-apart c e p q =
-    let (a, b) = led-ends (p .related) in
-    let (d, f) = led-ends (q .related) in
-    omega (arith, p .is, q .is)
+module _ {w w′ : List ℕ} {P : ℕ → Type 0} {slots cnt r : ℕ} (s : Stages w P slots cnt w′ r) where
+  step-before : (a b : ℕ) → Step w′ a b → Step w a b
+  step-before a b t = record { from = t .from; to = t .to; on = sym (rows-same s a (omega (arith, t .from)) (λ e. omega (arith, t .from)) b (t .to)) ∙ t .on }
+
+  step-after : (a b : ℕ) → Step w a b → Step w′ a b
+  step-after a b t = record { from = t .from; to = t .to; on = rows-same s a (omega (arith, t .from)) (λ e. omega (arith, t .from)) b (t .to) ∙ t .on }
+
+  -- the vertices that step anywhere are still in row `domain`
+  starts-after : {domain side code n : ℕ} → Stageable w domain side code slots n → (a b : ℕ) → Step w′ a b → On w′ domain a
+  starts-after {domain} p a b t = rows-same s domain (p .most) (p .not-picked) a (t .from) ∙ p .starts a b (step-before a b t)
+
+-- ---- the two sides, one after the other
+
+module _ {w w₁ : List ℕ} {domain code slots cnt r : ℕ} (p : Stageable w domain 0 code slots cnt) (s : Stages w (Outward w code) slots cnt w₁ r) where
+  -- on either side, and behind any number of entries that fits
+  pub stageable-then : {side n : ℕ} → side < 2 → n ≤ slots → Stageable w₁ domain side code slots n
+  stageable-then side-small count =
+      record {
+        least = p .least;
+        most = p .most;
+        not-picked = p .not-picked;
+        starts = starts-after s p;
+        side-small = side-small;
+        code-small = p .code-small;
+        count = count;
+        room = omega (arith, p .room, s .outcome .len);
+      }
+
+  pub sides-over : slots < r → Stages w (Sided w code) slots cnt w₁ r
+  sides-over h =
+      record {
+        kept = s .kept;
+        outcome = record { len = s .outcome .len; done = λ l. absurd (omega arith); over = λ l. over-as (s .outcome .over l) (λ e. inl) };
+      }
+
+  pub sides-all : {w₂ : List ℕ} {r′ : ℕ} → r ≤ slots → Stages w₁ (Hubbed w₁ 1 code) slots r w₂ r′ → Stages w (Sided w code) slots cnt w₂ r′
+  sides-all fits t =
+      record {
+        kept = λ k h n. t .kept k h n ∙ s .kept k h n;
+        outcome = outcome-then (s .outcome) fits apart (outcome-as (t .outcome) (λ e. moved (step-before s) (step-after s)) (λ e. moved (step-after s) (step-before s)));
+      }
+    where
+      moved : {v v′ : List ℕ} {e : ℕ} → ((a b : ℕ) → Step v a b → Step v′ a b) → ((a b : ℕ) → Step v′ a b → Step v a b) → Hubbed v 1 code e → Hubbed v′ 1 code e
+      moved f g x =
+          record {
+            hub = x .hub;
+            owner = x .owner;
+            step = f _ _ (x .step);
+            late = x .late;
+            alone = λ v h i j. x .alone v h (g _ _ i) (g _ _ j);
+            is = x .is;
+          }
+
+      apart : (e : ℕ) → Outward w code e → Hubbed w 1 code e → ⊥
+      apart e x y = omega (arith, x .is, y .is, x .step .from, x .step .to, y .step .from, y .step .to, p .code-small)
+
+-- ---- the whole
 
 module _ {edges slots w : List ℕ} {label starts code room cnt : ℕ} (p : Patternable edges slots w label starts code room cnt) where
-  -- ---- out entries
-  module _ {w₁ : List ℕ} (b : Back edges w label w₁) where
-    pub back-finishable : Finishable w₁ endsRow 0 code room cnt
-    back-finishable =
+  module _ {w₁ : List ℕ} (f : Forth edges w label w₁) where
+    pub closable : Closable w₁ starts
+    closable =
+        let g = p .fillable in
         record {
-          least = omega arith;
-          most = omega arith;
-          not-open = λ e. omega arith;
-          not-todo = λ e. omega arith;
-          not-picked = λ e. omega arith;
-          starts = b .ends;
-          side-small = omega arith;
-          code-small = p .code-small;
-          count = p .count;
-          room = omega (arith, p .room-there, b .keeps .len);
+          long = omega (arith, g .long, f .keeps .len);
+          least = g .least;
+          most = omega (arith, g .most);
+          not-open = λ e. omega (arith, g .most);
+          not-todo = λ e. omega (arith, g .most);
+          starts = λ x y s. kept x (s .from) ∙ g .sources x y (f .only x y s);
         }
+      where
+        kept : (j : ℕ) → j < mostVertices → cell w₁ starts j ≡ cell w starts j
+        kept = same-row w w₁ starts (λ k l. f .keeps .same (starts * 4 + k)
+            (⊎-elim (λ q. omega (arith, p .fillable .least)) (λ q. omega (arith, p .fillable .most))))
 
-    module _ {w₂ : List ℕ} {r : ℕ} (f : Finished w₁ 0 code room cnt w₂ r) where
-      pub back-spared : Spared w w₂
-      back-spared =
-          record {
-            len = f .spared .len ∙ b .keeps .len;
-            same = λ k h l m. f .spared .same k h l m ∙ b .keeps .same k (⊎-elim (λ q. omega arith) (⊎-elim (λ q. omega arith) (λ q. omega arith)));
-          }
+    module _ {w₂ : List ℕ} (c : Closed w₁ w₂) where
+      -- a vertex steps where the label and the word lead, once or more
+      led : (x y : ℕ) → Step w₂ x y ↔ Plus (Led edges w label) x y
+      led x y =
+          let same = plus-as (λ a b. (f .only a b, f .all a b)) x y in
+          (λ s. same .0 (c .only x y s), λ q. c .all x y (same .1 q))
 
-      pub back-outcome : Outcome w cnt w₂ r room (Picked (λ u y. Plus (Led edges w label) y u) 0 code)
-      back-outcome = outcome-since
-          (outcome-as (f .outcome) (λ e. picked-as (λ x y. turned x y .0) (λ x y. turned x y .1)) (λ e. picked-as (λ x y. turned x y .1) (λ x y. turned x y .0)))
-          (b .keeps .len)
-          (λ i h. b .keeps .same i (⊎-elim (λ q. omega arith) (⊎-elim (λ q. omega arith) (λ q. omega arith))))
-        where
-          turned : (x y : ℕ) → Plus (Step w₁) x y ↔ Plus (Led edges w label) y x
-          turned = plus-turned (λ x y. (b .only x y, b .all x y))
+      pub transits : Transits w₂
+      transits = record { on = λ x y z s t. led x z .1 (plus-then (led x y .0 s) (led y z .0 t)) }
 
-      pub patterned-over : room < r → Patterned edges w label code room cnt w₂ r
-      patterned-over h =
-          record {
-            spared = back-spared;
-            quiet = f .quiet;
-            outcome = record { len = back-spared .len; done = λ l. absurd (omega arith); over = λ l. over-as (back-outcome .over l) (λ e. out) };
-          }
-
-      -- ---- in entries
-      led-same : (x y : ℕ) → Led edges w₂ label x y ↔ Led edges w label x y
-      led-same x y = (
-        λ h. let g = h .gathers in record {
-          from = h .from;
-          to = h .to;
-          gathers = record { b = g .b; small = g .small; stands = g .stands; on = sym (kept (g .b) (g .small) y (h .to)) ∙ g .on };
-        },
-        λ h. let g = h .gathers in record {
-          from = h .from;
-          to = h .to;
-          gathers = record { b = g .b; small = g .small; stands = g .stands; on = kept (g .b) (g .small) y (h .to) ∙ g .on };
-        },
-      )
-        where
-          kept : (m : ℕ) → m < mostVertices → (j : ℕ) → j < mostVertices → cell w₂ (parentRows + m) j ≡ cell w (parentRows + m) j
-          kept m l = spared-row back-spared (parentRows + m) (omega arith) (omega arith)
-
-      starts-same : (j : ℕ) → j < mostVertices → cell w₂ starts j ≡ cell w starts j
-      starts-same = spared-row back-spared starts (omega (arith, p .fillable .least)) (p .fillable .most)
-
-      pub forth-fillable : Fillable edges slots w₂ label starts
-      forth-fillable =
+      pub stageable : Stageable w₂ starts 0 code room cnt
+      stageable =
           let g = p .fillable in
           record {
-            ready = g .ready;
-            long = omega (arith, g .long, back-spared .len);
-            label-least = g .label-least;
-            label-most = g .label-most;
             least = g .least;
-            most = g .most;
-            quiet = f .quiet;
-            sources = λ x y h. starts-same x (h .from) ∙ g .sources x y (led-same x y .0 h);
+            most = omega (arith, g .most);
+            not-picked = λ e. omega (arith, g .most);
+            starts = λ x y s. kept x (s .from) ∙ plus-from (On w₁ starts) (closable .starts) (c .only x y s);
+            side-small = omega arith;
+            code-small = p .code-small;
+            count = p .count;
+            room = omega (arith, p .room-there, f .keeps .len, c .len);
           }
+        where
+          kept : (j : ℕ) → j < mostVertices → cell w₂ starts j ≡ cell w₁ starts j
+          kept = same-row w₁ w₂ starts
+              (λ k h. c .others (starts * 4 + k) (omega (arith, p .fillable .least)) (λ e. omega (arith, p .fillable .most)) (λ e. omega (arith, p .fillable .most)))
 
-      module _ {w₃ : List ℕ} (t : Forth edges w₂ label w₃) where
-        -- on either side, and behind any number of entries that fits
-        pub forth-finishable : {side n : ℕ} → side < 2 → n ≤ room → Finishable w₃ starts side code room n
-        forth-finishable side-small count =
-            let g = p .fillable in
+      module _ {w₃ : List ℕ} {r : ℕ} (s : Stages w₂ (Sided w₂ code) room cnt w₃ r) where
+        pub wipeable : Wipeable w₃ starts
+        wipeable =
             record {
-              least = g .least;
-              most = omega (arith, g .most);
-              not-open = λ e. omega (arith, g .most);
-              not-todo = λ e. omega (arith, g .most);
-              not-picked = λ e. omega (arith, g .most);
-              starts = λ x y s. kept x (s .from) ∙ forth-fillable .sources x y (t .only x y s);
-              side-small = side-small;
-              code-small = p .code-small;
-              count = count;
-              room = omega (arith, p .room-there, back-spared .len, t .keeps .len);
+              long = omega (arith, stageable .room, s .outcome .len);
+              least = stageable .least;
+              most = stageable .most;
+              starts = starts-after s stageable;
+            }
+
+        pub patterned : {w₄ : List ℕ} → Wiped w₃ w₄ → Patterned edges w label code room cnt w₄ r
+        patterned {w₄} e =
+            record {
+              spared = record { len = e .keeps .len ∙ s .outcome .len ∙ c .len ∙ f .keeps .len; same = same };
+              quiet = e .quiet;
+              outcome = outcome-since
+                  (outcome-kept (outcome-as (s .outcome) there back) (e .keeps .len) (λ i h. e .keeps .same i (λ l. omega arith)))
+                  (c .len ∙ f .keeps .len)
+                  (λ i h. c .others i (omega arith) (λ q. omega arith) (λ q. omega arith) ∙ f .keeps .same i (⊎-elim (λ q. omega arith) (λ q. omega arith)));
             }
           where
-            kept : (j : ℕ) → j < mostVertices → cell w₃ starts j ≡ cell w₂ starts j
-            kept = same-row w₂ w₃ starts (λ k l. t .keeps .same (starts * 4 + k)
-                (⊎-elim (λ q. omega (arith, p .fillable .least)) (λ q. omega (arith, p .fillable .most))))
+            same : (k : ℕ) → k < leastWork → mostVertices ≤ k / 4 → k / 4 < tempRows → getD w₄ k 0 ≡ getD w k 0
+            same k h l m = e .keeps .same k (λ q. omega arith) ∙ s .kept k h (λ q. omega arith)
+                ∙ c .others k (omega arith) (λ q. omega arith) (λ q. omega arith) ∙ f .keeps .same k (⊎-elim (λ q. omega arith) (λ q. omega arith))
 
-        pub patterned : {w₄ : List ℕ} {r′ : ℕ} → r ≤ room → Finished w₃ 1 code room r w₄ r′ → Patterned edges w label code room cnt w₄ r′
-        patterned {w₄} {r′} fits z =
-            record {
-              spared = spared-then back-spared (record {
-                len = z .spared .len ∙ t .keeps .len;
-                same = λ k h l m. z .spared .same k h l m ∙ t .keeps .same k (⊎-elim (λ q. omega arith) (λ q. omega arith));
-              });
-              quiet = z .quiet;
-              outcome = outcome-as (outcome-then back-outcome fits (sides-apart (p .code-small)) ins) both parts;
-            }
-          where
-            same : (x y : ℕ) → Plus (Step w₃) x y ↔ Plus (Led edges w label) x y
-            same = plus-as (λ x y. (λ s. led-same x y .0 (t .only x y s), λ h. t .all x y (led-same x y .1 h)))
+            there : (x : ℕ) → Sided w₂ code x → Either edges w label code x
+            there x (inl o) = out (record {
+              hub = o .hub;
+              owner = o .owner;
+              related = led _ _ .0 (o .step);
+              late = omega (arith, o .late);
+              alone = λ v h i j. o .alone v h (led _ _ .1 j) (led _ _ .1 i);
+              is = o .is;
+            })
+            there x (inr o) = into (record {
+              hub = o .hub;
+              owner = o .owner;
+              related = led _ _ .0 (o .step);
+              late = o .late;
+              alone = λ v h i j. o .alone v h (led _ _ .1 i) (led _ _ .1 j);
+              is = o .is;
+            })
 
-            ins : Outcome w₂ r w₄ r′ room (Picked (Plus (Led edges w label)) 1 code)
-            ins = outcome-since
-                (outcome-as (z .outcome) (λ e. picked-as (λ x y. same x y .0) (λ x y. same x y .1)) (λ e. picked-as (λ x y. same x y .1) (λ x y. same x y .0)))
-                (t .keeps .len)
-                (λ i h. t .keeps .same i (⊎-elim (λ q. omega arith) (λ q. omega arith)))
-
-            both : (e : ℕ) → Picked (λ u y. Plus (Led edges w label) y u) 0 code e ⊎ Picked (Plus (Led edges w label)) 1 code e → Either edges w label code e
-            both e (inl q) = out q
-            both e (inr q) = into q
-
-            parts : (e : ℕ) → Either edges w label code e → Picked (λ u y. Plus (Led edges w label) y u) 0 code e ⊎ Picked (Plus (Led edges w label)) 1 code e
-            parts e (Either.out q) = inl q
-            parts e (Either.into q) = inr q
+            back : (x : ℕ) → Either edges w label code x → Sided w₂ code x
+            back x (Either.out o) = inl (record {
+              owner = o .owner;
+              hub = o .hub;
+              step = led _ _ .1 (o .related);
+              late = omega (arith, o .late);
+              alone = λ v h i j. o .alone v h (led _ _ .0 j) (led _ _ .0 i);
+              is = o .is;
+            })
+            back x (Either.into o) = inr (record {
+              hub = o .hub;
+              owner = o .owner;
+              step = led _ _ .1 (o .related);
+              late = o .late;
+              alone = λ v h i j. o .alone v h (led _ _ .0 i) (led _ _ .0 j);
+              is = o .is;
+            })

@@ -1,14 +1,25 @@
 -- Staging the entries of one pattern, on both sides.
+use mathlib.Core.Path.{_≡_}
 use mathlib.Core.List.{List}
-use Prim.Native.Nat.{ℕ, _+_, _≤_, _<_}
-use lib.ListN.{length}
-use Rattle.model.specs.Limits.{leastWork, hubUnit}
+use mathlib.Core.Logic.{_⊎_}
+use Prim.Native.Nat.{ℕ, _+_, _/_, _≤_, _<_}
+use lib.ListN.{length, getD}
+use Rattle.model.specs.Limits.{mostVertices, leastWork, hubUnit}
 use Rattle.model.specs.Hubs.{Picked}
 use Rattle.rows.specs.Rows.{Step}
+use Rattle.rows.specs.Room.{tempRows}
 use Rattle.closure.specs.Closing.{Plus}
-use Rattle.staging.specs.Stage.{Outcome}
+use Rattle.staging.specs.Stage.{Outcome, Hubbed, Outward}
 use Rattle.relation.specs.Relation.{Led, Fillable}
-use Rattle.hubs.specs.Finish.{Spared}
+
+-- the numbers below 4,096 are kept, but for the step rows and the rows from `temp` on
+pub record Spared (w w′ : List ℕ) : Type 0 where
+  pub len : length w′ ≡ length w
+  pub same : (k : ℕ) → k < leastWork → mostVertices ≤ k / 4 → k / 4 < tempRows → getD w′ k 0 ≡ getD w k 0
+
+-- the entries of both sides, by the step rows
+abbrev pub Sided : List ℕ → ℕ → ℕ → Type 0
+Sided w code e = Outward w code e ⊎ Hubbed w 1 code e
 
 -- the entries of both sides, by the relation of the label and the parent's word
 pub data Either (edges w : List ℕ) (label code e : ℕ) : Type 0 where

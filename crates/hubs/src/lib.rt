@@ -1,16 +1,17 @@
-// The entries of one pattern: its step rows filled, closed, staged and emptied, first backwards (out entries), then forwards (in entries).
-ghost use Rattle.hubs.specs.Finish.{Finishable, Finished};
-ghost use Rattle.hubs.specs.Pattern.{Patternable, Patterned};
+// The entries of one pattern: its step rows filled, closed, staged from on both sides, and emptied.
+ghost use Rattle.staging.specs.Stage.{Stageable, Transits, Stages};
+ghost use Rattle.hubs.specs.Pattern.{Sided, Patternable, Patterned};
 
-// Closes the step rows, stages the entries of one side behind the first cnt, and empties the rows. Returns how many are staged then, or slots + 1.
-fn finish(w: &mut [u64], domain: usize, side: u64, code: u64, slots: usize, cnt: usize) -> usize
-    requires { ⌜ Finishable (now w) domain side code slots cnt ⌝ }
-    ensures { λ r. ⌜ Finished (now (w .entry)) side code slots cnt (now (w .exit)) r ⌝ }
+// Stages the out entries and then the in entries of the closed step rows, behind the first cnt. Returns how many are staged then, or slots + 1.
+fn stage_sides(w: &mut [u64], domain: usize, code: u64, slots: usize, cnt: usize) -> usize
+    requires { ⌜ Stageable (now w) domain 0 code slots cnt × Transits (now w) ⌝ }
+    ensures { λ r. ⌜ Stages (now (w .entry)) (Sided (now (w .entry)) code) slots cnt (now (w .exit)) r ⌝ }
 {
-    closure::close(w, domain);
-    let staged = staging::stage(w, domain, side, code, slots, cnt);
-    clearing::wipe(w, domain);
-    staged
+    let outs = staging::stage_out(w, domain, code, slots, cnt);
+    if slots < outs {
+        return outs;
+    }
+    staging::stage(w, domain, 1, code, slots, outs)
 }
 
 // Stages the entries of the pattern that is the label and the parent's word, behind the first cnt. Returns how many are staged then, or room + 1.
@@ -27,11 +28,9 @@ pub fn stage_pattern(
     requires { ⌜ Patternable (now edges) (now slots) (now w) label starts code room cnt ⌝ }
     ensures { λ r. ⌜ Patterned (now (edges .entry)) (now (w .entry)) label code room cnt (now (w .exit)) r ⌝ }
 {
-    relation::fill_back(edges, slots, label, w, starts);
-    let outs = finish(w, rows::ENDS, 0, code, room, cnt);
-    if room < outs {
-        return outs;
-    }
     relation::fill_forth(edges, slots, label, w, starts);
-    finish(w, starts, 1, code, room, outs)
+    closure::close(w, starts);
+    let staged = stage_sides(w, starts, code, room, cnt);
+    clearing::wipe(w, starts);
+    staged
 }

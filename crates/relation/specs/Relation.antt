@@ -6,7 +6,7 @@ use Prim.Native.Nat.{ℕ, _≤_, _<_}
 use lib.ListN.{length}
 use Rattle.model.specs.Limits.{mostVertices, mostLabel, leastWork}
 use Rattle.rows.specs.Rows.{On, Step}
-use Rattle.rows.specs.Room.{childRows, tempRows, endsRow, gatheredRow}
+use Rattle.rows.specs.Room.{childRows, tempRows, gatheredRow}
 use Rattle.steps.specs.Steps.{Ready, Keeps, Gathers}
 
 -- the label and the parent's word lead from a to b
@@ -31,10 +31,3 @@ pub record Forth (edges w : List ℕ) (label : ℕ) (w′ : List ℕ) : Type 0 w
   pub keeps : Keeps w w′ (λ r. (r < mostVertices) ⊎ (r ≡ gatheredRow))
   pub only : (a b : ℕ) → Step w′ a b → Led edges w label a b
   pub all : (a b : ℕ) → Led edges w label a b → Step w′ a b
-
--- afterwards each vertex steps to those that lead to it, and row `ends` has every vertex that is led to
-pub record Back (edges w : List ℕ) (label : ℕ) (w′ : List ℕ) : Type 0 where
-  pub keeps : Keeps w w′ (λ r. (r < mostVertices) ⊎ ((r ≡ gatheredRow) ⊎ (r ≡ endsRow)))
-  pub only : (b a : ℕ) → Step w′ b a → Led edges w label a b
-  pub all : (b a : ℕ) → Led edges w label a b → Step w′ b a
-  pub ends : (b a : ℕ) → Step w′ b a → On w′ endsRow b

@@ -36,8 +36,5 @@ todoRow = 825
 abbrev pub pickedRow : ℕ
 pickedRow = 826
 
-abbrev pub endsRow : ℕ
-endsRow = 827
-
 abbrev pub gatheredRow : ℕ
-gatheredRow = 828
+gatheredRow = 827

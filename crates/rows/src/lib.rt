@@ -22,9 +22,7 @@ pub const TODO: usize = 825;
 
 pub const PICKED: usize = 826;
 
-pub const ENDS: usize = 827;
-
-pub const GATHERED: usize = 828;
+pub const GATHERED: usize = 827;
 
 // The first of the 1,024 numbers that edge memory is saved in.
 pub const SAVED: usize = 2048;

@@ -19,10 +19,10 @@ pub record Alike (w w′ : List ℕ) : Type 0 where
 pub alike-back : {w w′ : List ℕ} → Alike w w′ → Alike w′ w
 alike-back s = record { same = λ a j h l. sym (s .same a j h l) }
 
-alike-picked : {w w′ : List ℕ} {P : ℕ → Type 0} → Becomes w w′ pickedRow P → Alike w w′
+pub alike-picked : {w w′ : List ℕ} {P : ℕ → Type 0} → Becomes w w′ pickedRow P → Alike w w′
 alike-picked b = record { same = λ a j h l. row-kept b a (λ e. omega arith) j l }
 
-step-as : {w w′ : List ℕ} {a b : ℕ} → Alike w w′ → Step w a b → Step w′ a b
+pub step-as : {w w′ : List ℕ} {a b : ℕ} → Alike w w′ → Step w a b → Step w′ a b
 step-as s x = record { from = x .from; to = x .to; on = s .same _ _ (x .from) (x .to) ∙ x .on }
 
 pub owned-as : {w w′ : List ℕ} {u n y : ℕ} → Alike w w′ → Owned w u n y → Owned w′ u n y

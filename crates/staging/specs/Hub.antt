@@ -1,4 +1,4 @@
--- The entries with one hub: the vertices that own them, picked as a row, and the entries staged.
+-- The entries with one hub: the vertices that own them, picked as a row, and the entries staged. The out entries of one owner.
 use mathlib.Core.Path.{_≡_}
 use mathlib.Core.List.{List}
 use Prim.Native.Nat.{ℕ, _+_, _/_, _≤_, _<_}
@@ -41,3 +41,16 @@ pub record Emittable (w : List ℕ) (u side code slots cnt : ℕ) : Type 0 where
 pub record Emitted (w : List ℕ) (u side code slots cnt : ℕ) (w′ : List ℕ) (r : ℕ) : Type 0 where
   pub kept : (k : ℕ) → k < leastWork → getD w′ k 0 ≡ getD w k 0
   pub outcome : Outcome w cnt w′ r slots (Emits w u side code mostVertices)
+
+-- s steps to y, and no vertex below n stands between the two
+pub record Free (w : List ℕ) (s n y : ℕ) : Type 0 where
+  pub step : Step w s y
+  pub alone : (v : ℕ) → v < n → Step w s v → Step w v y → ⊥
+
+-- e is the out entry of owner s with a hub below n
+pub record OutOf (w : List ℕ) (s code n e : ℕ) : Type 0 where
+  pub hub : ℕ
+  pub early : hub < n
+  pub late : hub ≤ s
+  pub free : Free w s hub hub
+  pub is : e ≡ entryOf 0 s hub code

@@ -47,6 +47,16 @@ pub record Hubbed (w : List ℕ) (side code e : ℕ) : Type 0 where
   pub alone : (v : ℕ) → v < hub → Step w hub v → Step w v owner → ⊥
   pub is : e ≡ entryOf side owner hub code
 
+-- e is the out entry of an owner with a hub: the owner steps to the hub and comes no earlier, and no vertex earlier than the hub stands
+-- between the two
+pub record Outward (w : List ℕ) (code e : ℕ) : Type 0 where
+  pub owner : ℕ
+  pub hub : ℕ
+  pub step : Step w owner hub
+  pub late : hub ≤ owner
+  pub alone : (v : ℕ) → v < hub → Step w owner v → Step w v hub → ⊥
+  pub is : e ≡ entryOf 0 owner hub code
+
 -- what staging needs: the vertices that step anywhere are in row `domain`, and there is room for the slots
 pub record Stageable (w : List ℕ) (domain side code slots cnt : ℕ) : Type 0 where
   pub least : childRows ≤ domain
@@ -58,7 +68,11 @@ pub record Stageable (w : List ℕ) (domain side code slots cnt : ℕ) : Type 0 
   pub count : cnt ≤ slots
   pub room : leastWork + slots ≤ length w
 
--- the numbers below 4,096 are kept, but for row `picked`, and the entries are staged behind the first cnt
-pub record Stages (w : List ℕ) (side code slots cnt : ℕ) (w′ : List ℕ) (r : ℕ) : Type 0 where
+-- each vertex steps to all that its steps lead to
+pub record Transits (w : List ℕ) : Type 0 where
+  pub on : (a b c : ℕ) → Step w a b → Step w b c → Step w a c
+
+-- the numbers below 4,096 are kept, but for row `picked`, and the entries of P are staged behind the first cnt
+pub record Stages (w : List ℕ) (P : ℕ → Type 0) (slots cnt : ℕ) (w′ : List ℕ) (r : ℕ) : Type 0 where
   pub kept : (k : ℕ) → k < leastWork → (k / 4 ≡ pickedRow → ⊥) → getD w′ k 0 ≡ getD w k 0
-  pub outcome : Outcome w cnt w′ r slots (Hubbed w side code)
+  pub outcome : Outcome w cnt w′ r slots P

@@ -1,10 +1,10 @@
-// Staging: the entries of one pattern and side, hub by hub, from the closed step rows.
+// Staging: the entries of one pattern from the closed step rows, those of one side hub by hub, or the out entries owner by owner.
 use rows::PICKED;
 ghost use Prim.Native.Nat.{ℕ, _≤_, _<_};
 ghost use lib.ListN.{length};
 ghost use Rattle.model.specs.Limits.{mostVertices, leastWork};
-ghost use Rattle.staging.specs.Stage.{Stageable, Stages};
-ghost use Rattle.staging.specs.Hub.{Picks, Emittable, Emitted};
+ghost use Rattle.staging.specs.Stage.{Hubbed, Outward, Stageable, Transits, Stages};
+ghost use Rattle.staging.specs.Hub.{Picks, Emittable, Emitted, OutOf};
 
 // Where the entries are staged.
 const STAGE: usize = 4096;
@@ -46,7 +46,7 @@ fn emit(w: &mut [u64], u: usize, side: u64, code: u64, slots: usize, cnt: usize)
 // Stages the entries of one side behind the first cnt, and returns how many are staged then, or slots + 1 where there are more than slots.
 pub fn stage(w: &mut [u64], domain: usize, side: u64, code: u64, slots: usize, cnt: usize) -> usize
     requires { ⌜ Stageable (now w) domain side code slots cnt ⌝ }
-    ensures { λ r. ⌜ Stages (now (w .entry)) side code slots cnt (now (w .exit)) r ⌝ }
+    ensures { λ r. ⌜ Stages (now (w .entry)) (Hubbed (now (w .entry)) side code) slots cnt (now (w .exit)) r ⌝ }
 {
     let mut k = cnt;
     let mut u = rows::next(w, domain, 0);
@@ -59,4 +59,42 @@ pub fn stage(w: &mut [u64], domain: usize, side: u64, code: u64, slots: usize, c
         u = rows::next(w, domain, u + 1);
     }
     k
+}
+
+// Stages the out entries of owner s behind the first cnt: the vertices of its row no later than s, less the rows of those taken before. As
+// the rows are closed, what a vertex that was struck out leads to is struck out as well. Returns as stage does.
+fn emit_out(w: &mut [u64], s: usize, code: u64, slots: usize, cnt: usize) -> usize
+    requires { ⌜ Emittable (now w) s 0 code slots cnt × Transits (now w) ⌝ }
+    ensures { λ r. ⌜ Stages (now (w .entry)) (OutOf (now (w .entry)) s code mostVertices) slots cnt (now (w .exit)) r ⌝ }
+{
+    rows::join(w, PICKED, s, s);
+    let mut n = cnt;
+    let mut u = rows::next(w, PICKED, 0);
+    while u <= s {
+        if n == slots {
+            return slots + 1;
+        }
+        w[STAGE + n] = s as u64 * 16777216 + u as u64 * 65536 + code;
+        n += 1;
+        rows::less(w, PICKED, PICKED, u);
+        u = rows::next(w, PICKED, u + 1);
+    }
+    n
+}
+
+// Stages the out entries behind the first cnt, and returns as stage does.
+pub fn stage_out(w: &mut [u64], domain: usize, code: u64, slots: usize, cnt: usize) -> usize
+    requires { ⌜ Stageable (now w) domain 0 code slots cnt × Transits (now w) ⌝ }
+    ensures { λ r. ⌜ Stages (now (w .entry)) (Outward (now (w .entry)) code) slots cnt (now (w .exit)) r ⌝ }
+{
+    let mut n = cnt;
+    let mut s = rows::next(w, domain, 0);
+    while s < 256 {
+        n = emit_out(w, s, code, slots, n);
+        if slots < n {
+            return n;
+        }
+        s = rows::next(w, domain, s + 1);
+    }
+    n
 }

@@ -4,12 +4,14 @@ use Prim.Native.Nat.{_-_}
 use native.Mathlib.Omega.{arith}
 use lib.ListN.{length}
 use Rattle.model.specs.Limits.{mostVertices}
-use Rattle.staging.proofs.Hubbing.{Hubs, hubs-none, hubs-more, hubs-over, hubs-all}
+use Rattle.staging.specs.Stage.{Hubbed}
+use Rattle.staging.proofs.Passing.{Through, through-none, through-more, through-over, through-all}
+use Rattle.staging.proofs.Hubbing.{hubOf, hubs-placed, hub-stages, hub-only, hub-here, hub-all}
 use Rattle.staging.proofs.stage.Statement.{statement}
 use Rattle.staging.proofs.stage.Tie as tie
 
 abbrev Inv-loop : tie.InvT-loop
-Inv-loop w₀ domain side code slots cnt k₀ u₀ w k u = Hubs w₀ side code slots cnt w k u
+Inv-loop w₀ domain side code slots cnt k₀ u₀ w k u = Through w₀ (Hubbed w₀ side code) hubOf slots cnt w k u
 
 abbrev μ-loop : tie.MeasureT-loop
 μ-loop w₀ domain side code slots cnt k₀ u₀ w k u = mostVertices - u
@@ -25,7 +27,7 @@ next-requires : tie.Need-next-requires Inv-loop μ-loop
 next-requires c κs = (record { row = c .before .before .pre .most; long = omega arith }, omega arith)
 
 loop-holds : tie.Need-loop-holds Inv-loop μ-loop
-loop-holds c = hubs-none (c .before .before .before .pre) (c .next .ensures)
+loop-holds c = let pre = c .before .before .before .pre in through-none pre (hubs-placed pre) (c .next .ensures)
 
 pick-requires : tie.Need-pick-requires Inv-loop μ-loop
 pick-requires c κs = (omega (arith, c .before .loop-test .taken), omega arith)
@@ -49,12 +51,19 @@ returns : tie.Need-returns Inv-loop μ-loop
 returns c =
     let emit = c .before .before .before in
     let turn = emit .before .before .before .before .before .before in
-    hubs-over
-    (turn .before .before .before .before .before .pre)
-    (turn .before .loop .inv)
-    (omega (arith, turn .loop-test .taken))
-    (emit .before .before .before .before .pick .ensures)
-    (emit .emit .ensures)
+    let pre = turn .before .before .before .before .before .pre in
+    let inv = turn .before .loop .inv in
+    let small = turn .loop-test .taken in
+    let picks = emit .before .before .before .before .pick .ensures in
+    let emitted = emit .emit .ensures in
+    through-over
+    pre
+    (hubs-placed pre)
+    inv
+    (hub-stages pre inv small picks emitted)
+    (hub-only pre inv small picks emitted)
+    (hub-here pre inv small picks emitted)
+    (hub-all pre inv small picks emitted)
     (c .if1 .taken)
 
 add-next : tie.Need-add-next Inv-loop μ-loop
@@ -74,12 +83,19 @@ loop-again : tie.Need-loop-again Inv-loop μ-loop
 loop-again c =
     let emit = c .before .before .before .before .before in
     let turn = emit .before .before .before .before .before .before in
-    hubs-more
-    (turn .before .before .before .before .before .pre)
-    (turn .before .loop .inv)
-    (omega (arith, turn .loop-test .taken))
-    (emit .before .before .before .before .pick .ensures)
-    (emit .emit .ensures)
+    let pre = turn .before .before .before .before .before .pre in
+    let inv = turn .before .loop .inv in
+    let small = turn .loop-test .taken in
+    let picks = emit .before .before .before .before .pick .ensures in
+    let emitted = emit .emit .ensures in
+    through-more
+    pre
+    (hubs-placed pre)
+    inv
+    (hub-stages pre inv small picks emitted)
+    (hub-only pre inv small picks emitted)
+    (hub-here pre inv small picks emitted)
+    (hub-all pre inv small picks emitted)
     (c .before .before .if1 .left)
     (c .next2 .ensures)
 
@@ -87,7 +103,9 @@ same-length-2 : tie.Need-same-length-2 Inv-loop μ-loop
 same-length-2 c = c .before .loop .inv .outcome .len
 
 returns-2 : tie.Need-returns-2 Inv-loop μ-loop
-returns-2 c = hubs-all (omega (arith, c .loop-test .left)) (c .before .loop .inv)
+returns-2 c =
+    let pre = c .before .before .before .before .before .pre in
+    through-all pre (hubs-placed pre) (omega (arith, c .loop-test .left)) (c .before .loop .inv)
 
 pub stage-spec : {M : Type 1} → statement M
 stage-spec =
