@@ -1,0 +1,29 @@
+/* Opens a layout of 3 vertices, inserts layout A's edges one by one, asks, and writes its card. */
+#include "rlc.h"
+
+#include <stdio.h>
+
+int main(void) {
+    static uint32_t record[2] = {3, 2}; /* 3 vertices, patterns of at most 2 labels */
+    static uint32_t edges[16];
+    static uint64_t index[64];
+    static uint64_t work[4096 + 64];
+    static const uint32_t legs[3][3] = {{0, 1, 1}, {1, 1, 2}, {1, 2, 0}}; /* from, label, to */
+
+    printf("open %u\n", rlc_open(record, 2, edges, 16, index, 64));
+    for (int i = 0; i < 3; i++)
+        printf("insert %u\n", rlc_insert(record, 2, legs[i][0], legs[i][1], legs[i][2], edges, 16, index, 64, work, 4096 + 64));
+
+    const uint8_t pattern[2] = {1, 2};
+    printf("0 to 0 by 1,2: %s\n", rlc_query(record, 2, 0, 0, pattern, 2, index, 64) == RLC_YES ? "yes" : "no");
+    printf("0 to 0 by 1: %s\n", rlc_query(record, 2, 0, 0, pattern, 1, index, 64) == RLC_YES ? "yes" : "no");
+    printf("0 to 3 by 1: refused %u\n", rlc_query(record, 2, 0, 3, pattern, 1, index, 64));
+
+    uint8_t card[64];
+    uint64_t length = rlc_write_card(record, 2, edges, 16, card, sizeof card);
+    printf("card");
+    for (uint64_t i = 0; i < length; i++)
+        printf(" %02x", card[i]);
+    printf("\n");
+    return 0;
+}

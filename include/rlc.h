@@ -1,0 +1,104 @@
+/* rlc.h: the pattern index of a model-railway layout.
+ *
+ * A layout is a directed graph: vertices (places) numbered from 0, and edges (legs), each from a vertex to a
+ * vertex, perhaps the same one, with a label (colour) 1 to 8. A query names a start, a destination and a
+ * pattern of labels. The reply is yes exactly when some walk of one or more edges spells the pattern's
+ * minimum repeat one or more whole times: 1,2,1,2 is asked as 1,2.
+ *
+ * Everything the library works on is lent by its caller with each call. Nothing is kept between calls, there
+ * is no heap and no global state, and every call returns.
+ *
+ *   record   2 numbers: vertices (1 to 256), longest pattern k (1 to 4)
+ *   edges    edge memory, 0 to 1,024 slots: one edge a slot, from * 4096 + label * 256 + to, strictly rising, then zeros
+ *   index    index memory, any number of slots: one entry a slot, strictly rising, then zeros
+ *   work     at least 4,096 numbers; where an index is built (insert, remove, read card) one more for each index
+ *            slot. Contents do not matter. Zero after an accepted call and after refusal 13, else untouched.
+ *
+ * A slice is a pointer and then its number of elements. Elements must be aligned as their C type asks. A slice
+ * of 0 elements may have any pointer, NULL too. One memory must not be lent twice in one call, nor changed by
+ * another thread or an interrupt while the call runs. Stack use is below 16 KiB for every call.
+ *
+ * A refused call changes nothing that was lent, but that refusal 13 zeroes work memory.
+ */
+#ifndef RLC_H
+#define RLC_H
+
+#include <stddef.h>
+#include <stdint.h>
+
+#ifdef __cplusplus
+extern "C" {
+#endif
+
+/* Replies. */
+enum {
+    RLC_ACCEPTED = 0, /* of open, insert, remove, read card */
+    RLC_NO = 0,       /* of query and search */
+    RLC_YES = 100,
+    RLC_SPENT = 101,   /* of search: neither yes nor no within the level limit */
+    RLC_RECORD = 255   /* the record lent does not have 2 numbers */
+};
+
+/* Refusals. The first that applies, in the order given at each call, is returned. */
+enum {
+    RLC_VERTICES = 1,       /* vertices not 1 to 256 */
+    RLC_LONGEST = 2,        /* longest pattern not 1 to 4 */
+    RLC_EDGE_MEMORY = 3,    /* over 1,024 slots, or (not for open or read card) not rising edges of this layout then zeros */
+    RLC_WORK_MEMORY = 4,    /* too little work memory */
+    RLC_EDGE_END = 5,       /* an end of the edge is no vertex */
+    RLC_EDGE_LABEL = 6,     /* the edge's label is not 1 to 8 */
+    RLC_EDGE_PRESENT = 7,   /* the edge to insert stands already */
+    RLC_EDGE_ABSENT = 8,    /* the edge to remove does not stand */
+    RLC_EDGE_SLOTS = 9,     /* fewer edge slots than edges wanted */
+    RLC_QUERY_END = 10,     /* start or destination is no vertex */
+    RLC_QUERY_PATTERN = 11, /* pattern empty, longer than k, or with a label not 1 to 8 */
+    RLC_INDEX_MEMORY = 12,  /* not rising entries of this layout then zeros */
+    RLC_INDEX_SLOTS = 13,   /* fewer index slots than entries needed; work memory is zero */
+    RLC_CARD_MARK = 14,     /* card under 9 bytes, or without its mark PRC */
+    RLC_CARD_VERSION = 15,  /* card version not 1 */
+    RLC_CARD_EDGES = 16,    /* card length not 9 + 3 * edges, or not rising edges of its layout */
+    RLC_CARD_OUTPUT = 17    /* output shorter than the card */
+};
+
+/* Opens an empty layout with the record's vertices and k: zeroes edge and index memory. Refusals 1 2 3.
+ * Returns 0 or the refusal. The record handed back is the one given. */
+uint32_t rlc_open(uint32_t *record, size_t record_n, uint32_t *edges, size_t edges_n, uint64_t *index, size_t index_n);
+
+/* Inserts (lays) an edge and builds the index of the edges that then stand. Refusals 1 2 3 4 5 6 7 9 13.
+ * Index memory is written whole; what it held before does not matter. Returns 0 or the refusal. */
+uint32_t rlc_insert(uint32_t *record, size_t record_n, uint32_t from, uint32_t label, uint32_t to, uint32_t *edges, size_t edges_n,
+                    uint64_t *index, size_t index_n, uint64_t *work, size_t work_n);
+
+/* Removes (lifts) an edge, likewise. Refusals 1 2 3 4 5 6 8 13. A removal can need more entries than before. */
+uint32_t rlc_remove(uint32_t *record, size_t record_n, uint32_t from, uint32_t label, uint32_t to, uint32_t *edges, size_t edges_n,
+                    uint64_t *index, size_t index_n, uint64_t *work, size_t work_n);
+
+/* Asks the index. Refusals 1 2 10 11 12. Returns 100 yes, 0 no, else the refusal. On the record and index memory
+ * that the last accepted change left the reply is right. */
+uint32_t rlc_query(const uint32_t *record, size_t record_n, uint32_t start, uint32_t destination, const uint8_t *pattern, size_t pattern_n,
+                   const uint64_t *index, size_t index_n);
+
+/* Searches level by level, without the index; at most level_limit levels are built, and 1,025 always suffice.
+ * Refusals 1 2 3 4 10 11. Returns reply * 2^32 + levels built: reply 100 yes, 0 no, 101 spent, else the refusal
+ * with levels 0. A record without 2 numbers gives 255 * 2^32. */
+uint64_t rlc_search(const uint32_t *record, size_t record_n, uint32_t start, uint32_t destination, const uint8_t *pattern, size_t pattern_n,
+                    uint32_t level_limit, const uint32_t *edges, size_t edges_n, uint64_t *work, size_t work_n);
+
+/* Reads a card: edge and index memory are then those of a fresh layout that received the card's edges, and the
+ * card's vertices and k are written to the record. Refusals 14 15 2 16 3 9 4 13; the record is then untouched.
+ * Returns 0 or the refusal. */
+uint32_t rlc_read_card(uint32_t *record, size_t record_n, const uint8_t *card, size_t card_n, uint32_t *edges, size_t edges_n,
+                       uint64_t *index, size_t index_n, uint64_t *work, size_t work_n);
+
+/* Writes the layout's card to the front of the output and touches nothing behind it. Refusals 1 2 3 17.
+ * Returns the card's length, 9 + 3 * edges; refused, the refusal * 2^32. */
+uint64_t rlc_write_card(const uint32_t *record, size_t record_n, const uint32_t *edges, size_t edges_n, uint8_t *output, size_t output_n);
+
+/* The length of the pattern's minimum repeat; 0 unless the pattern is 1 to 4 labels 1 to 8. */
+uint32_t rlc_minimum_repeat(const uint8_t *pattern, size_t pattern_n);
+
+#ifdef __cplusplus
+}
+#endif
+
+#endif
