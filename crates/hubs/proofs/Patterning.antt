@@ -4,16 +4,14 @@ use mathlib.Core.List.{List}
 use mathlib.Core.Logic.{_⊎_, inl, inr, ⊎-elim, _↔_}
 use Prim.Native.Nat.{ℕ, _+_, _*_, _/_, _≤_, _<_}
 use native.Mathlib.Omega.{arith}
-use lib.ListN.{length, getD}
-use Rattle.model.specs.Limits.{mostVertices, leastWork, hubUnit}
-use Rattle.model.specs.Entries.{entryOf}
-use Rattle.model.specs.Hubs.{Picked}
+use lib.ListN.{getD}
+use Rattle.model.specs.Limits.{mostVertices, leastWork}
 use Rattle.rows.specs.Rows.{cell, On, Step}
-use Rattle.rows.specs.Room.{openRow, todoRow, pickedRow, tempRows}
+use Rattle.rows.specs.Room.{pickedRow, tempRows}
 use Rattle.rows.proofs.Rows.{same-row}
 use Rattle.closure.specs.Closing.{Plus, Closable, Closed}
 use Rattle.closure.proofs.Plus.{plus-then, plus-from, plus-as}
-use Rattle.staging.specs.Stage.{Outcome, Hubbed, Outward, Stageable, Transits, Stages}
+use Rattle.staging.specs.Stage.{Hubbed, Outward, Stageable, Transits, Stages}
 use Rattle.staging.proofs.Adding.{outcome-as, outcome-kept, outcome-since, outcome-then, over-as}
 use Rattle.relation.specs.Relation.{Led, Forth}
 use Rattle.clearing.specs.Clearing.{Wipeable, Wiped}

@@ -9,14 +9,14 @@ use lib.ListN.{length, getD, set}
 use lib.Seq.{getD-set-other}
 use Rattle.model.specs.Limits.{mostVertices, leastWork, hubUnit}
 use Rattle.model.specs.Entries.{entryOf}
-use Rattle.rows.specs.Rows.{cell, On, Becomes, Next, Step}
+use Rattle.rows.specs.Rows.{cell, On, Becomes, Next}
 use Rattle.rows.specs.Room.{pickedRow}
 use Rattle.rows.proofs.Rows.{same-row, beyond-kept}
 use Rattle.staging.specs.Stage.{Outward, Adds, Stageable, Transits, Stages}
 use Rattle.staging.specs.Hub.{Emittable, Free, OutOf}
 use Rattle.staging.proofs.Adding.{adds-none, adds-as, adds-put, adds-kept, over-as, over-now, outcome-as, outcome-since}
 use Rattle.staging.proofs.Picking.{Alike, alike-back, alike-picked, step-as}
-use Rattle.staging.proofs.Passing.{Through, Placed, rows-kept}
+use Rattle.staging.proofs.Passing.{Through, Placed, rows-kept, through-over, through-more}
 
 -- ---- the vertices left in row `picked`
 
@@ -229,7 +229,7 @@ module _ {w : List ℕ} {domain code slots cnt : ℕ} (p : Stageable w domain 0 
 
   -- the entries of owner s
   module _ {w₁ : List ℕ} {k s : ℕ} (a : Through w (Outward w code) ownerOf slots cnt w₁ k s) (h : s < mostVertices) where
-    pub steps : Alike w w₁
+    steps : Alike w w₁
     steps = record { same = λ r j l. rows-kept w w₁ (a .kept) r (omega arith) (λ e. omega arith) j }
 
     back : Alike w₁ w
@@ -238,7 +238,7 @@ module _ {w : List ℕ} {domain code slots cnt : ℕ} (p : Stageable w domain 0 
     pub still-transits : Transits w → Transits w₁
     still-transits t = record { on = λ x y z m n. step-as steps (t .on x y z (step-as back m) (step-as back n)) }
 
-    pub owner-only : (e : ℕ) → OutOf w₁ s code mostVertices e → Outward w code e
+    owner-only : (e : ℕ) → OutOf w₁ s code mostVertices e → Outward w code e
     owner-only e m =
         record {
           owner = s;
@@ -249,10 +249,10 @@ module _ {w : List ℕ} {domain code slots cnt : ℕ} (p : Stageable w domain 0 
           is = m .is;
         }
 
-    pub owner-here : (e : ℕ) → OutOf w₁ s code mostVertices e → ownerOf e ≡ s
+    owner-here : (e : ℕ) → OutOf w₁ s code mostVertices e → ownerOf e ≡ s
     owner-here e m = ap ownerOf (m .is) ∙ entry-owner s (m .hub) code h (m .early) (p .code-small)
 
-    pub owner-all : (e : ℕ) → Outward w code e → ownerOf e ≡ s → OutOf w₁ s code mostVertices e
+    owner-all : (e : ℕ) → Outward w code e → ownerOf e ≡ s → OutOf w₁ s code mostVertices e
     owner-all e x i = rw (sym (owner-is e x) ∙ i) at of-owner
       where
         of-owner : OutOf w₁ (x .owner) code mostVertices e
@@ -267,3 +267,10 @@ module _ {w : List ℕ} {domain code slots cnt : ℕ} (p : Stageable w domain 0 
               };
               is = x .is;
             }
+
+    module _ {w₂ : List ℕ} {k′ : ℕ} (c : Stages w₁ (OutOf w₁ s code mostVertices) slots k w₂ k′) where
+      pub outs-over : slots < k′ → Stages w (Outward w code) slots cnt w₂ k′
+      outs-over = through-over p owners-placed a c owner-only owner-here owner-all
+
+      pub outs-more : k′ ≤ slots → {q : ℕ} → Next w₂ domain (s + 1) q → Through w (Outward w code) ownerOf slots cnt w₂ k′ q
+      outs-more = through-more p owners-placed a c owner-only owner-here owner-all

@@ -1,7 +1,7 @@
 -- Entries staged from number 4,096 of work memory on, hub by hub.
 use mathlib.Core.Path.{_≡_}
 use mathlib.Core.List.{List}
-use Prim.Native.Nat.{ℕ, _+_, _/_, _^_, _≤_, _<_}
+use Prim.Native.Nat.{ℕ, _+_, _/_, _≤_, _<_}
 use lib.ListN.{length, getD}
 use Rattle.model.specs.Limits.{leastWork, hubUnit}
 use Rattle.model.specs.Entries.{entryOf}

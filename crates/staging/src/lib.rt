@@ -1,6 +1,6 @@
 // Staging: the entries of one pattern from the closed step rows, those of one side hub by hub, or the out entries owner by owner.
 use rows::PICKED;
-ghost use Prim.Native.Nat.{ℕ, _≤_, _<_};
+ghost use Prim.Native.Nat.{_≤_, _<_};
 ghost use lib.ListN.{length};
 ghost use Rattle.model.specs.Limits.{mostVertices, leastWork};
 ghost use Rattle.staging.specs.Stage.{Hubbed, Outward, Stageable, Transits, Stages};

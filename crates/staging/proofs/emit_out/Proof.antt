@@ -1,11 +1,10 @@
 -- `staging::emit_out` meets its contract: the entries of the hubs before u are staged, and their rows struck out.
-use mathlib.Core.Path.{_≡_, refl, _∙_}
-use Prim.Native.Nat.{ℕ, _+_, _*_, _-_, _≤_, _<_}
+use mathlib.Core.Path.{refl, _∙_}
+use Prim.Native.Nat.{_+_, _-_, _≤_}
 use borrow.Author.Needs.{needs}
 use native.Mathlib.Omega.{arith}
 use lib.ListN.{length, length-set}
 use Rattle.model.specs.Limits.{mostVertices, leastWork}
-use Rattle.rows.specs.Rows.{Has}
 use Rattle.rows.proofs.Rows.{has-kept}
 use Rattle.staging.proofs.Owning.{Taken, joined-transits, taken-none, taken-since, taken-over, taken-more, taken-all}
 use Rattle.staging.proofs.emit_out.Statement.{statement}

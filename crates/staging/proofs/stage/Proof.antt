@@ -5,8 +5,8 @@ use native.Mathlib.Omega.{arith}
 use lib.ListN.{length}
 use Rattle.model.specs.Limits.{mostVertices}
 use Rattle.staging.specs.Stage.{Hubbed}
-use Rattle.staging.proofs.Passing.{Through, through-none, through-more, through-over, through-all}
-use Rattle.staging.proofs.Hubbing.{hubOf, hubs-placed, hub-stages, hub-only, hub-here, hub-all}
+use Rattle.staging.proofs.Passing.{Through, through-none, through-all}
+use Rattle.staging.proofs.Hubbing.{hubOf, hubs-placed, hubs-over, hubs-more}
 use Rattle.staging.proofs.stage.Statement.{statement}
 use Rattle.staging.proofs.stage.Tie as tie
 
@@ -51,19 +51,12 @@ returns : tie.Need-returns Inv-loop μ-loop
 returns c =
     let emit = c .before .before .before in
     let turn = emit .before .before .before .before .before .before in
-    let pre = turn .before .before .before .before .before .pre in
-    let inv = turn .before .loop .inv in
-    let small = turn .loop-test .taken in
-    let picks = emit .before .before .before .before .pick .ensures in
-    let emitted = emit .emit .ensures in
-    through-over
-    pre
-    (hubs-placed pre)
-    inv
-    (hub-stages pre inv small picks emitted)
-    (hub-only pre inv small picks emitted)
-    (hub-here pre inv small picks emitted)
-    (hub-all pre inv small picks emitted)
+    hubs-over
+    (turn .before .before .before .before .before .pre)
+    (turn .before .loop .inv)
+    (omega (arith, turn .loop-test .taken))
+    (emit .before .before .before .before .pick .ensures)
+    (emit .emit .ensures)
     (c .if1 .taken)
 
 add-next : tie.Need-add-next Inv-loop μ-loop
@@ -83,19 +76,12 @@ loop-again : tie.Need-loop-again Inv-loop μ-loop
 loop-again c =
     let emit = c .before .before .before .before .before in
     let turn = emit .before .before .before .before .before .before in
-    let pre = turn .before .before .before .before .before .pre in
-    let inv = turn .before .loop .inv in
-    let small = turn .loop-test .taken in
-    let picks = emit .before .before .before .before .pick .ensures in
-    let emitted = emit .emit .ensures in
-    through-more
-    pre
-    (hubs-placed pre)
-    inv
-    (hub-stages pre inv small picks emitted)
-    (hub-only pre inv small picks emitted)
-    (hub-here pre inv small picks emitted)
-    (hub-all pre inv small picks emitted)
+    hubs-more
+    (turn .before .before .before .before .before .pre)
+    (turn .before .loop .inv)
+    (omega (arith, turn .loop-test .taken))
+    (emit .before .before .before .before .pick .ensures)
+    (emit .emit .ensures)
     (c .before .before .if1 .left)
     (c .next2 .ensures)
 

@@ -5,8 +5,8 @@ use native.Mathlib.Omega.{arith}
 use lib.ListN.{length}
 use Rattle.model.specs.Limits.{mostVertices}
 use Rattle.staging.specs.Stage.{Outward}
-use Rattle.staging.proofs.Passing.{Through, through-none, through-more, through-over, through-all}
-use Rattle.staging.proofs.Owning.{ownerOf, owners-placed, still-transits, owner-only, owner-here, owner-all}
+use Rattle.staging.proofs.Passing.{Through, through-none, through-all}
+use Rattle.staging.proofs.Owning.{ownerOf, owners-placed, still-transits, outs-over, outs-more}
 use Rattle.staging.proofs.stage_out.Statement.{statement}
 use Rattle.staging.proofs.stage_out.Tie as tie
 
@@ -32,13 +32,13 @@ emit-out-requires c κs =
     let inv = c .before .before .loop .inv in
     let small = c .before .loop-test .taken in (
       record {
-        vertex = omega (arith, small);
+        vertex = omega (arith, c .before .loop-test .taken);
         side-small = omega arith;
         code-small = pre .0 .code-small;
         count = inv .fits;
         room = omega (arith, inv .outcome .len, pre .0 .room);
       },
-      still-transits (pre .0) inv small (pre .1),
+      still-transits (pre .0) inv (omega (arith, c .before .loop-test .taken)) (pre .1),
     )
 
 same-length : tie.Need-same-length Inv-loop μ-loop
@@ -48,18 +48,7 @@ returns : tie.Need-returns Inv-loop μ-loop
 returns c =
     let emit = c .before .before .before in
     let turn = emit .before .before in
-    let pre = turn .before .before .before .before .before .pre .0 in
-    let inv = turn .before .loop .inv in
-    let small = turn .loop-test .taken in
-    through-over
-    pre
-    (owners-placed pre)
-    inv
-    (emit .emit-out .ensures)
-    (owner-only pre inv small)
-    (owner-here pre inv small)
-    (owner-all pre inv small)
-    (c .if1 .taken)
+    outs-over (turn .before .before .before .before .before .pre .0) (turn .before .loop .inv) (omega (arith, turn .loop-test .taken)) (emit .emit-out .ensures) (c .if1 .taken)
 
 add-next : tie.Need-add-next Inv-loop μ-loop
 add-next c = omega (arith, c .before .before .before .before .before .before .loop-test .taken)
@@ -78,17 +67,11 @@ loop-again : tie.Need-loop-again Inv-loop μ-loop
 loop-again c =
     let emit = c .before .before .before .before .before in
     let turn = emit .before .before in
-    let pre = turn .before .before .before .before .before .pre .0 in
-    let inv = turn .before .loop .inv in
-    let small = turn .loop-test .taken in
-    through-more
-    pre
-    (owners-placed pre)
-    inv
+    outs-more
+    (turn .before .before .before .before .before .pre .0)
+    (turn .before .loop .inv)
+    (omega (arith, turn .loop-test .taken))
     (emit .emit-out .ensures)
-    (owner-only pre inv small)
-    (owner-here pre inv small)
-    (owner-all pre inv small)
     (c .before .before .if1 .left)
     (c .next2 .ensures)
 
