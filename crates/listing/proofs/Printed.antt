@@ -1,0 +1,50 @@
+-- What is printed after a card reading: the listing of what it leaves, or the refusal.
+use mathlib.Core.Path.{_≡_, refl, sym, ap, _∙_}
+use mathlib.Core.List.{List}
+use Prim.Native.Nat.{ℕ, _≤_}
+use native.Mathlib.Omega.{arith}
+use lib.ListN.{length, take, drop, length-append}
+use borrow.Author.Tests.{ne-eqb}
+use Rattle.model.specs.Edges.{standing}
+use Rattle.model.specs.Replies.{answerOf, numberOf}
+use Rattle.model.specs.declared.Refusal.{Refusal}
+use Rattle.model.specs.declared.Answer.the-variants.{Accepted, Refused}
+use Rattle.model.proofs.Replies.{number-some}
+use Rattle.calls.specs.Change.{Change}
+use Rattle.calls.specs.Card.{readCall}
+use Rattle.store.specs.declared.Changed.{Changed}
+use Rattle.store.specs.Store.{Meets}
+use Rattle.printing.specs.Lines.{listing, refusedLine}
+use Rattle.printing.specs.Puts.{Puts}
+use Rattle.listing.specs.Listing.{blank, text, printed}
+use Rattle.listing.proofs.Standing.{standing-front}
+
+module _ {c : Change} {r : Changed} {edges index work : List ℕ} (m : Meets c r edges index work) where
+  text-listing : r .answer ≡ Accepted
+      → text c ≡ listing (r .header .vertices) (r .header .longest) (length (standing edges)) (standing index)
+  text-listing e =
+      let a : c .answer ≡ 0 = sym (m .leaves .answer) ∙ ap answerOf e in
+      rw (a, ← m .header, m .leaves .edges-after, m .leaves .index-after) refl
+
+  text-refused : {refusal : Refusal} → r .answer ≡ Refused refusal → text c ≡ refusedLine (numberOf refusal)
+  text-refused {refusal} e =
+      let a : c .answer ≡ numberOf refusal = sym (m .leaves .answer) ∙ ap answerOf e in
+      rw (a, ne-eqb (numberOf refusal) 0 (λ z. omega (arith, number-some refusal))) refl
+
+-- the lines put for an accepted card, and for a refused one
+module _ (card : List ℕ) {r : Changed} {edges index work out out′ : List ℕ} {end : ℕ} (m : Meets (readCall card blank) r edges index work) where
+  pub puts-listing : {a n : ℕ} → r .answer ≡ Accepted → a ≡ length (standing edges) → n ≡ length (standing index)
+      → Puts out 0 (listing (r .header .vertices) (r .header .longest) a (take n index)) out′ end → Puts out 0 (printed card) out′ end
+  unfolding printed
+  puts-listing {a} {n} e p q puts =
+      let front : take n index ≡ standing index = ap (λ (k : ℕ). take k index) q ∙ standing-front index in
+      rw (text-listing m e) (rw (p, front) at puts)
+
+  pub puts-refused : {refusal : Refusal} {n : ℕ} → r .answer ≡ Refused refusal → n ≡ numberOf refusal
+      → Puts out 0 (refusedLine n) out′ end → Puts out 0 (printed card) out′ end
+  unfolding printed
+  puts-refused e p puts = rw (text-refused m e) (rw p at puts)
+
+-- text put at the front ends within the bytes lent
+pub ends-within : {out text out′ : List ℕ} {r : ℕ} → Puts out 0 text out′ r → r ≤ length out′
+ends-within {out} {text} {out′} {r} p = omega (arith, p .end, ap length (p .bytes), length-append text (drop r out))

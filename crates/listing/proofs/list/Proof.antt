@@ -1,0 +1,131 @@
+-- `listing::list` meets its contract: what stands in memory after the card reading is listed, or the refusal is.
+use mathlib.Core.Path.{sym}
+use Prim.Native.Nat.{_≤_}
+use native.Mathlib.Omega.{arith}
+use borrow.Author.Needs.{needs}
+use lib.ListN.{length}
+use lib.Seq.{length-take-le}
+use Rattle.listing.proofs.Standing.{standing-within}
+use Rattle.listing.proofs.Printed.{puts-listing, puts-refused}
+use Rattle.listing.proofs.list.Statement.{statement}
+use Rattle.listing.proofs.list.Tie as tie
+
+-- the card reading, from the arm of an accepted card and from that of a refused one
+abbrev read : tie.After-standing-edges → tie.After-read-card
+read c = c .before .before .before .before .before .before .before .before
+
+abbrev refused : tie.After-answer → tie.After-read-card
+refused c = c .before .before .before .before .before .before
+
+abbrev start : tie.After-read-card → tie.Start
+start c = c .before .before .before .before .before .before
+
+-- no more edges stand than slots, and no more entries
+few : (c : tie.After-standing-entries) → (c .before .before .standing-edges .result ≤ 1024) × (c .standing-entries .result ≤ 1024)
+few c =
+    let edges = c .before .before in
+    let card = read edges .read-card in (
+      omega (arith, edges .standing-edges .ensures, standing-within (card .last .1 .0), card .kept .1 .0),
+      omega (arith, c .standing-entries .ensures, standing-within (card .last .1 .1 .0), card .kept .1 .1 .0),
+    )
+
+-- the entries lie within index memory
+within : (c : tie.After-standing-entries) → c .standing-entries .result ≤ length (read (c .before .before) .read-card .last .1 .1 .0)
+within c = omega (arith, c .standing-entries .ensures, standing-within (read (c .before .before) .read-card .last .1 .1 .0))
+
+slice-aggregate-read-card : tie.Need-slice-aggregate-read-card
+slice-aggregate-read-card c = search needs
+
+slice-aggregate-read-card-2 : tie.Need-slice-aggregate-read-card-2
+slice-aggregate-read-card-2 c = search needs
+
+slice-aggregate-read-card-3 : tie.Need-slice-aggregate-read-card-3
+slice-aggregate-read-card-3 c = search needs
+
+read-card-requires : tie.Need-read-card-requires
+read-card-requires c κs = search needs
+
+enum-known-answer : tie.Need-enum-known-answer
+enum-known-answer c = search needs
+
+refusal-number-requires : tie.Need-refusal-number-requires
+refusal-number-requires c κs = search needs
+
+put-refused-requires : tie.Need-put-refused-requires
+put-refused-requires c κs = search needs
+
+enum-told : tie.Need-enum-told
+enum-told c = search needs
+
+slice-aggregate-standing-edges : tie.Need-slice-aggregate-standing-edges
+slice-aggregate-standing-edges c = search needs
+
+standing-edges-requires : tie.Need-standing-edges-requires
+standing-edges-requires c κs = search needs
+
+slice-aggregate-standing-entries : tie.Need-slice-aggregate-standing-entries
+slice-aggregate-standing-entries c = search needs
+
+standing-entries-requires : tie.Need-standing-entries-requires
+standing-entries-requires c κs = search needs
+
+cast-put-listing : tie.Need-cast-put-listing
+cast-put-listing c = omega (arith, few (c .before))
+
+array-share-prefix-index : tie.Need-array-share-prefix-index
+array-share-prefix-index c = within (c .before)
+
+slice-aggregate-put-listing : tie.Need-slice-aggregate-put-listing
+slice-aggregate-put-listing c = sym (length-take-le _ _ (within (c .before .before)))
+
+put-listing-requires : tie.Need-put-listing-requires
+put-listing-requires c κs =
+    let entries = c .before .before in
+    let card = read (entries .before .before) in
+    let n = length-take-le (entries .standing-entries .result) (card .read-card .last .1 .1 .0) (within entries) in
+    (omega (arith, n, few entries), omega (arith, n, few entries, start card .pre))
+
+same-length : tie.Need-same-length
+same-length c = search needs
+
+returns : tie.Need-returns
+returns c =
+    let number = c .before .before .before in
+    let answer = number .before .before .before in
+    puts-refused _ (refused answer .read-card .ensures) (answer .answer .given .1) (number .refusal-number .ensures) (c .before .before .put-refused .ensures)
+
+same-length-2 : tie.Need-same-length-2
+same-length-2 c = search needs
+
+returns-2 : tie.Need-returns-2
+returns-2 c =
+    let put = c .before .before in
+    let entries = put .before .before .before in
+    let edges = entries .before .before in
+    let told = edges .before .before in
+    puts-listing _ (read edges .read-card .ensures) (told .enum-told .given .1) (edges .standing-edges .ensures) (entries .standing-entries .ensures) (put .put-listing .ensures)
+
+pub list-spec : {M : Type 1} → statement M
+list-spec =
+    tie.close
+    (tie.spec
+    slice-aggregate-read-card
+    slice-aggregate-read-card-2
+    slice-aggregate-read-card-3
+    read-card-requires
+    enum-known-answer
+    refusal-number-requires
+    put-refused-requires
+    enum-told
+    slice-aggregate-standing-edges
+    standing-edges-requires
+    slice-aggregate-standing-entries
+    standing-entries-requires
+    cast-put-listing
+    array-share-prefix-index
+    slice-aggregate-put-listing
+    put-listing-requires
+    same-length
+    returns
+    same-length-2
+    returns-2)

@@ -1,0 +1,67 @@
+// The listing program: takes the first 4,096 bytes of standard input as a card, and prints the layout's index, or the refusal.
+use model::Answer;
+ghost use mathlib.Core.Path.{_≡_};
+ghost use Prim.Native.Nat.{_≤_};
+ghost use lib.ListN.{length};
+ghost use Rattle.model.specs.Edges.{standing};
+ghost use Rattle.printing.specs.Puts.{Puts};
+ghost use Rattle.listing.specs.Listing.{printed};
+
+// A header line and 1,024 entry lines.
+const ROOM: usize = 32840;
+
+// How many slots stand before the first zero.
+fn standing_edges(edges: &[u32]) -> usize
+    ensures { λ r. ⌜ r ≡ length (standing (now (edges .entry))) ⌝ }
+{
+    let mut i = 0;
+    while i < edges.len() {
+        if edges[i] == 0 {
+            return i;
+        }
+        i += 1;
+    }
+    i
+}
+
+fn standing_entries(index: &[u64]) -> usize
+    ensures { λ r. ⌜ r ≡ length (standing (now (index .entry))) ⌝ }
+{
+    let mut i = 0;
+    while i < index.len() {
+        if index[i] == 0 {
+            return i;
+        }
+        i += 1;
+    }
+    i
+}
+
+// Writes what is printed for the card. Returns where it ends.
+fn list(card: &[u8], out: &mut [u8]) -> usize
+    requires { ⌜ 32840 ≤ length (now out) ⌝ }
+    ensures { λ r. ⌜ Puts (now (out .entry)) 0 (printed (now (card .entry))) (now (out .exit)) r ⌝ }
+{
+    let mut edges = [0u32; 1024];
+    let mut index = [0u64; 1024];
+    let mut work = [0u64; 5120];
+    let changed = store::read_card(card, &mut edges, &mut index, &mut work);
+    let answer = changed.answer;
+    let header = changed.header;
+    match answer {
+        Answer::Refused(refusal) => printing::put_refused(out, 0, store::refusal_number(refusal)),
+        Answer::Accepted => {
+            let m = standing_edges(&edges);
+            let n = standing_entries(&index);
+            printing::put_listing(out, header.vertices, header.longest, m as u32, &index[..n])
+        }
+    }
+}
+
+fn main() {
+    let mut card = io::buffer();
+    let n = io::read_full(libc::STDIN_FILENO, &mut card);
+    let mut out = [0u8; ROOM];
+    let end = list(&card[..n], &mut out);
+    io::write_all(libc::STDOUT_FILENO, &out[..end]);
+}
