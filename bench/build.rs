@@ -1,7 +1,8 @@
-// Links the proved library, which `rt staticlib bench_c` writes.
+// Links the proved libraries, which `rt staticlib` writes: `bench` the leaves, `calls` the C interface.
 fn main() {
-    let root = std::env::var("CARGO_MANIFEST_DIR").unwrap();
-    println!("cargo:rustc-link-search=native={root}/../target/staticlib");
-    println!("cargo:rustc-link-lib=static=bench_c");
-    println!("cargo:rerun-if-changed={root}/../target/staticlib/libbench_c.a");
+    let folder = format!("{}/../target/staticlib", std::env::var("CARGO_MANIFEST_DIR").unwrap());
+    for (program, library) in [("bench", "bench_c"), ("calls", "rlc_c")] {
+        println!("cargo:rustc-link-arg-bin={program}={folder}/lib{library}.a");
+        println!("cargo:rerun-if-changed={folder}/lib{library}.a");
+    }
 }

@@ -3,10 +3,11 @@
 
 mod layouts;
 mod search;
+mod timing;
 
 use layouts::{Layout, Random, VERTICES};
 use std::hint::black_box;
-use std::time::Instant;
+use timing::{figures, heading, millis, print_times};
 
 extern "C" {
     fn bench_order(vertices: u32, edges: *const u32, m: usize, work: *mut u64, w: usize, order: *mut u8, n: usize);
@@ -42,23 +43,6 @@ fn proved_query(longest: u32, s: u32, t: u32, pattern: &[u8], index: &[u64]) -> 
 fn proved_sort(staged: &mut [u64], sorted: &mut [u64]) {
     assert_eq!(staged.len(), sorted.len());
     unsafe { bench_sort(staged.as_mut_ptr(), staged.len(), sorted.as_mut_ptr(), sorted.len()) }
-}
-
-fn millis<T>(run: impl FnOnce() -> T) -> (f64, T) {
-    let began = Instant::now();
-    let result = black_box(run());
-    (began.elapsed().as_secs_f64() * 1e3, result)
-}
-
-/// The least and the median.
-fn figures(mut times: Vec<f64>) -> (f64, f64) {
-    times.sort_by(f64::total_cmp);
-    (times[0], times[times.len() / 2])
-}
-
-fn print_times(name: &str, proved: Vec<f64>, rust: Vec<f64>, note: String) {
-    let ((a, a_mid), (b, b_mid)) = (figures(proved), figures(rust));
-    println!("{name:<16} {:>6.2} {:>6.2}   {a:>9.3} {a_mid:>9.3}   {b:>9.3} {b_mid:>9.3}   {note}", a / b, a_mid / b_mid);
 }
 
 fn time_build(layout: &Layout, longest: u32, repeats: usize) -> Vec<u64> {
@@ -126,10 +110,6 @@ fn time_sort(n: usize, repeats: usize) {
 
 fn main() {
     let wanted: Vec<String> = std::env::args().skip(1).collect();
-    let heading = |what: &str, unit: &str| {
-        println!("\n{what:<16} {:>13}   {:>19}   {:>19}", "proved / Rust", format!("proved, {unit}"), format!("Rust, {unit}"));
-        println!("{:<16} {:>6} {:>6}   {:>9} {:>9}   {:>9} {:>9}", "", "least", "median", "least", "median", "least", "median");
-    };
     let layouts: Vec<Layout> =
         layouts::all().into_iter().filter(|l| wanted.is_empty() || wanted.iter().any(|w| w == l.name)).collect();
     heading("build", "ms");

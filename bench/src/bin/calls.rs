@@ -1,0 +1,153 @@
+//! Times the public calls through the C interface beside Rust programs, in one run: a lay, the plain check, and a query against a fresh
+//! search. Both take turns; buffers are as the last repetition left them.
+
+#[path = "../layouts.rs"]
+mod layouts;
+#[path = "../levels.rs"]
+mod levels;
+#[path = "../search.rs"]
+#[allow(dead_code)]
+mod search;
+#[path = "../timing.rs"]
+mod timing;
+
+use layouts::{Layout, Random, VERTICES};
+use timing::{heading, millis, print_times};
+
+#[rustfmt::skip]
+extern "C" {
+    fn rlc_insert(record: *mut u32, n: usize, from: u32, label: u32, to: u32, edges: *mut u32, m: usize,
+                  index: *mut u64, slots: usize, work: *mut u64, w: usize) -> u32;
+    fn rlc_remove(record: *mut u32, n: usize, from: u32, label: u32, to: u32, edges: *mut u32, m: usize,
+                  index: *mut u64, slots: usize, work: *mut u64, w: usize) -> u32;
+    fn rlc_query(record: *const u32, n: usize, start: u32, destination: u32, pattern: *const u8, p: usize,
+                 index: *const u64, slots: usize) -> u32;
+    fn rlc_search(record: *const u32, n: usize, start: u32, destination: u32, pattern: *const u8, p: usize, limit: u32,
+                  edges: *const u32, m: usize, work: *mut u64, w: usize) -> u64;
+}
+
+const YES: u64 = 100;
+
+/// A layout's memory, as a caller lends it.
+struct Lent {
+    record: [u32; 2],
+    edges: Vec<u32>,
+    index: Vec<u64>,
+    work: Vec<u64>,
+}
+
+type Change = unsafe extern "C" fn(*mut u32, usize, u32, u32, u32, *mut u32, usize, *mut u64, usize, *mut u64, usize) -> u32;
+
+impl Lent {
+    fn new(longest: u32, edges: &[u32], slots: usize) -> Lent {
+        let index = vec![u64::MAX; slots];
+        Lent { record: [VERTICES, longest], edges: edges.to_vec(), index, work: vec![u64::MAX; 4096 + slots] }
+    }
+
+    fn change(&mut self, call: Change, x: u32) -> u32 {
+        let (m, slots, w) = (self.edges.len(), self.index.len(), self.work.len());
+        let (edges, index, work) = (self.edges.as_mut_ptr(), self.index.as_mut_ptr(), self.work.as_mut_ptr());
+        unsafe { call(self.record.as_mut_ptr(), 2, x / 4096, x / 256 % 16, x % 256, edges, m, index, slots, work, w) }
+    }
+
+    fn query(&self, s: u32, t: u32, pattern: &[u8]) -> u32 {
+        let (index, slots) = (self.index.as_ptr(), self.index.len());
+        unsafe { rlc_query(self.record.as_ptr(), 2, s, t, pattern.as_ptr(), pattern.len(), index, slots) }
+    }
+
+    /// The plain check with the least work memory.
+    fn search(&mut self, s: u32, t: u32, pattern: &[u8]) -> u64 {
+        let (record, p) = (self.record.as_ptr(), pattern.len());
+        let (edges, m, work) = (self.edges.as_ptr(), self.edges.len(), self.work.as_mut_ptr());
+        unsafe { rlc_search(record, 2, s, t, pattern.as_ptr(), p, 1025, edges, m, work, 4096) }
+    }
+}
+
+/// One edge is removed and laid again; the lay is timed, against the pruned search on all edges.
+fn time_lay(name: &str, longest: u32, edges: &[u32], repeats: usize) -> Lent {
+    let expected = search::build(VERTICES, longest as usize, edges);
+    let most = expected.len() + expected.len() / 2;
+    let mut lent = Lent::new(longest, edges, most);
+    let (mut proved, mut rust) = (Vec::new(), Vec::new());
+    for i in 0..repeats {
+        let x = edges[i * 7 % edges.len()];
+        assert_eq!(lent.change(rlc_remove, x), 0);
+        let (time, reply) = millis(|| lent.change(rlc_insert, x));
+        assert_eq!(reply, 0);
+        proved.push(time);
+        let (time, entries) = millis(|| search::build(VERTICES, longest as usize, edges));
+        assert_eq!(entries, lent.index[..entries.len()]);
+        rust.push(time);
+    }
+    print_times(name, proved, rust, format!("{} edges, {} entries", edges.len(), expected.len()));
+    lent
+}
+
+/// Ends and patterns at random, patterns from the index itself.
+fn draw(random: &mut Random, lent: &Lent) -> (u32, u32, Vec<u8>) {
+    let entries = lent.index.iter().take_while(|&&x| x != 0).count() as u32;
+    let code = lent.index[random.below(entries) as usize] & 65535;
+    let pattern = (0..4).rev().map(|i| (code >> (4 * i) & 15) as u8).filter(|&label| label > 0).collect();
+    (random.below(VERTICES), random.below(VERTICES), pattern)
+}
+
+/// Plain checks, each the least of five, summed.
+fn time_checks(name: &str, lent: &mut Lent, questions: usize) {
+    let mut random = Random(7);
+    let (mut proved, mut rust) = (vec![0.0; 5], vec![0.0; 5]);
+    for _ in 0..questions {
+        let (s, t, pattern) = draw(&mut random, lent);
+        for turn in 0..5 {
+            let (time, a) = millis(|| lent.search(s, t, &pattern));
+            proved[turn] += time * 1e3 / questions as f64;
+            let (time, b) = millis(|| levels::search(VERTICES, &lent.edges, &pattern, s, t));
+            rust[turn] += time * 1e3 / questions as f64;
+            let (yes, levels) = b.unwrap();
+            assert_eq!(a, (if yes { YES } else { 0 }) << 32 | levels as u64);
+        }
+    }
+    print_times(name, proved, rust, format!("{questions} checks"));
+}
+
+/// Queries against a fresh search for each.
+fn time_queries(name: &str, lent: &mut Lent, questions: usize) {
+    let mut random = Random(8);
+    let (mut proved, mut rust) = (vec![0.0; 5], vec![0.0; 5]);
+    for _ in 0..questions {
+        let (s, t, pattern) = draw(&mut random, lent);
+        for turn in 0..5 {
+            let (time, a) = millis(|| lent.query(s, t, &pattern));
+            proved[turn] += time * 1e3 / questions as f64;
+            let (time, b) = millis(|| levels::search(VERTICES, &lent.edges, &pattern, s, t));
+            rust[turn] += time * 1e3 / questions as f64;
+            assert_eq!(a as u64 == YES, b.unwrap().0);
+        }
+    }
+    print_times(name, proved, rust, format!("{questions} queries"));
+}
+
+fn main() {
+    let layouts: Vec<Layout> = layouts::all();
+    heading("lay", "ms");
+    let mut held = Vec::new();
+    for layout in &layouts {
+        for longest in [2, 4] {
+            let name = format!("{} k {longest}", layout.name);
+            let lent = time_lay(&name, longest, &layout.edges, if longest == 2 { 100 } else { 30 });
+            held.push((name, lent));
+        }
+    }
+    heading("lay, by edges", "ms");
+    for count in [128, 256, 512, 1024] {
+        let edges: Vec<u32> = (0..count).map(|i| layouts[0].edges[i * layouts[0].edges.len() / count]).collect();
+        time_lay("sparse k 4", 4, &edges, 30);
+    }
+    heading("plain check", "us");
+    for (name, lent) in &mut held {
+        time_checks(name, lent, 300);
+    }
+    heading("query / search", "us");
+    for (name, lent) in &mut held {
+        time_queries(name, lent, 100);
+    }
+}
