@@ -91,7 +91,7 @@ fn draw(random: &mut Random, lent: &Lent) -> (u32, u32, Vec<u8>) {
     (random.below(VERTICES), random.below(VERTICES), pattern)
 }
 
-/// Plain checks, each the least of five, summed.
+/// Plain checks in five turns: the mean of each turn.
 fn time_checks(name: &str, lent: &mut Lent, questions: usize) {
     let mut random = Random(7);
     let (mut proved, mut rust) = (vec![0.0; 5], vec![0.0; 5]);
@@ -109,7 +109,7 @@ fn time_checks(name: &str, lent: &mut Lent, questions: usize) {
     print_times(name, proved, rust, format!("{questions} checks"));
 }
 
-/// Queries against a fresh search for each.
+/// Queries against a fresh search for each, in five turns: the mean of each turn.
 fn time_queries(name: &str, lent: &mut Lent, questions: usize) {
     let mut random = Random(8);
     let (mut proved, mut rust) = (vec![0.0; 5], vec![0.0; 5]);
