@@ -1,15 +1,48 @@
 //! The same as first_query.c, in Rust: opens a layout of 3 vertices, inserts layout A's edges, asks, and writes its card.
 
 extern "C" {
-    fn rlc_open(record: *mut u32, record_n: usize, edges: *mut u32, edges_n: usize, index: *mut u64, index_n: usize) -> u32;
+    fn rlc_open(
+        record: *mut u32,
+        record_n: usize,
+        edges: *mut u32,
+        edges_n: usize,
+        index: *mut u64,
+        index_n: usize,
+    ) -> u32;
     #[rustfmt::skip]
-    fn rlc_insert(record: *mut u32, record_n: usize, from: u32, label: u32, to: u32, edges: *mut u32, edges_n: usize,
-                  index: *mut u64, index_n: usize, work: *mut u64, work_n: usize) -> u32;
+    fn rlc_insert(
+        record: *mut u32,
+        record_n: usize,
+        from: u32,
+        label: u32,
+        to: u32,
+        edges: *mut u32,
+        edges_n: usize,
+        index: *mut u64,
+        index_n: usize,
+        work: *mut u64,
+        work_n: usize,
+    ) -> u32;
     #[rustfmt::skip]
-    fn rlc_query(record: *const u32, record_n: usize, start: u32, destination: u32, pattern: *const u8, pattern_n: usize,
-                 index: *const u64, index_n: usize) -> u32;
+    fn rlc_query(
+        record: *const u32,
+        record_n: usize,
+        start: u32,
+        destination: u32,
+        pattern: *const u8,
+        pattern_n: usize,
+        index: *const u64,
+        index_n: usize,
+    ) -> u32;
     #[rustfmt::skip]
-    fn rlc_write_card(record: *const u32, record_n: usize, edges: *const u32, edges_n: usize, output: *mut u8, output_n: usize) -> u64;
+    fn rlc_write_card(
+        record: *const u32,
+        record_n: usize,
+        edges: *const u32,
+        edges_n: usize,
+        output: *mut u8,
+        output_n: usize,
+    ) -> u64;
 }
 
 const YES: u32 = 100;
@@ -25,7 +58,16 @@ struct Layout {
 impl Layout {
     fn open(&mut self) -> u32 {
         let (edges, index) = (&mut self.edges, &mut self.index);
-        unsafe { rlc_open(self.record.as_mut_ptr(), 2, edges.as_mut_ptr(), edges.len(), index.as_mut_ptr(), index.len()) }
+        unsafe {
+            rlc_open(
+                self.record.as_mut_ptr(),
+                2,
+                edges.as_mut_ptr(),
+                edges.len(),
+                index.as_mut_ptr(),
+                index.len(),
+            )
+        }
     }
 
     fn insert(&mut self, from: u32, label: u32, to: u32) -> u32 {
@@ -50,7 +92,16 @@ impl Layout {
 
     fn card(&self, output: &mut [u8]) -> u64 {
         let edges = &self.edges;
-        unsafe { rlc_write_card(self.record.as_ptr(), 2, edges.as_ptr(), edges.len(), output.as_mut_ptr(), output.len()) }
+        unsafe {
+            rlc_write_card(
+                self.record.as_ptr(),
+                2,
+                edges.as_ptr(),
+                edges.len(),
+                output.as_mut_ptr(),
+                output.len(),
+            )
+        }
     }
 }
 
@@ -63,7 +114,12 @@ fn yes_or_no(reply: u32) -> &'static str {
 }
 
 fn main() {
-    let mut layout = Layout { record: [3, 2], edges: [0; 16], index: [0; 64], work: [0; 4096 + 64] };
+    let mut layout = Layout {
+        record: [3, 2],
+        edges: [0; 16],
+        index: [0; 64],
+        work: [0; 4096 + 64],
+    };
     println!("open {}", layout.open());
     for (from, label, to) in [(0, 1, 1), (1, 1, 2), (1, 2, 0)] {
         println!("insert {}", layout.insert(from, label, to));
@@ -73,6 +129,9 @@ fn main() {
     println!("0 to 3 by 1: refused {}", layout.query(0, 3, &[1]));
     let mut card = [0; 64];
     let length = layout.card(&mut card) as usize;
-    let bytes: Vec<String> = card[..length].iter().map(|byte| format!("{byte:02x}")).collect();
+    let bytes: Vec<String> = card[..length]
+        .iter()
+        .map(|byte| format!("{byte:02x}"))
+        .collect();
     println!("card {}", bytes.join(" "));
 }

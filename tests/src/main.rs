@@ -15,6 +15,7 @@ mod gen;
 mod ledger;
 mod lent;
 mod library;
+mod listing;
 mod lists;
 mod pairs;
 mod reference;
@@ -29,6 +30,9 @@ use std::time::Instant;
 const SEED: u64 = 1;
 const ROUNDS: u64 = 600;
 
+/// The listing program, as `rt check listing` leaves it in the repository.
+const PROGRAM: &str = "target/bin/listing";
+
 fn main() {
     let arguments: Vec<u64> = std::env::args().skip(1).map(|word| word.parse().expect("a number")).collect();
     let argument = |i: usize, default: u64| arguments.get(i).copied().unwrap_or(default);
@@ -41,6 +45,8 @@ fn main() {
     println!("trials: {} calls, {:.1} s", t.calls, begin.elapsed().as_secs_f64());
     bounds::run(&mut t);
     println!("bounds: {} calls, {:.1} s", t.calls, begin.elapsed().as_secs_f64());
+    let listings = listing::run(&mut t, PROGRAM);
+    println!("listing: {listings} inputs, {:.1} s", begin.elapsed().as_secs_f64());
     for round in first..first + rounds {
         t.round = round;
         t.rng = Rng::new(seed.wrapping_mul(1_000_003).wrapping_add(round));

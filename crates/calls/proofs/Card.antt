@@ -1,4 +1,4 @@
--- Laws of the card: what its checks leave, its legs by their places, and that reading and writing undo each other.
+-- Laws of the card: what its checks leave, its edges by their places, and that reading and writing undo each other.
 use mathlib.Core.Path.{_≡_, refl, sym, ap, ap₂, _∙_}
 use mathlib.Core.Logic.{⊎-elim}
 use mathlib.Core.Bool.{Bool, true, false, _&&_}
@@ -17,7 +17,7 @@ use Rattle.model.proofs.Lists.{in-getD}
 use Rattle.model.proofs.Edges.{edge-fields, test-edge}
 use Rattle.model.proofs.Memory.{edge-least}
 use Rattle.calls.specs.Change.{Header}
-use Rattle.calls.specs.Card.{Bytes, mark, wordAt, headBytes, edgeBytes, legAt, legAt?, cardOf, marked?, version?, headerOf, countOf, edgesOf, risingLegs?, legs?, cardChecks, cardRefusal}
+use Rattle.calls.specs.Card.{Bytes, mark, wordAt, headBytes, edgeBytes, edgeAt, edgeAt?, cardOf, marked?, version?, headerOf, countOf, edgesOf, risingTriples?, cardEdges?, cardChecks, cardRefusal}
 use Rattle.calls.proofs.Checks.{First, none as all-pass, pass, first-is, Passed, done, also, passes, test-ends, test-longest}
 
 -- the first of two tests
@@ -56,16 +56,16 @@ pub card-is : (card : List ℕ) {n : ℕ} → First (cardChecks card) n → card
 unfolding cardRefusal
 card-is card f = first-is f
 
--- the legs of a card of another length, and of one of the right length
-pub legs-long : (card : List ℕ) → (length card ≡ headBytes + 3 * countOf card → ⊥) → legs? card ≡ false
-unfolding legs?
-legs-long card n = rw (test-false (test-eq (length card) (headBytes + 3 * countOf card)) n)
+-- the edges of a card of another length, and of one of the right length
+pub card-edges-long : (card : List ℕ) → (length card ≡ headBytes + 3 * countOf card → ⊥) → cardEdges? card ≡ false
+unfolding cardEdges?
+card-edges-long card n = rw (test-false (test-eq (length card) (headBytes + 3 * countOf card)) n)
 
-pub legs-body : (card : List ℕ) → length card ≡ headBytes + 3 * countOf card → legs? card ≡ risingLegs? (headerOf card .vertices) 0 (drop headBytes card)
-unfolding legs?
-legs-body card e = rw (test-true (test-eq (length card) (headBytes + 3 * countOf card)) e)
+pub card-edges-body : (card : List ℕ) → length card ≡ headBytes + 3 * countOf card → cardEdges? card ≡ risingTriples? (headerOf card .vertices) 0 (drop headBytes card)
+unfolding cardEdges?
+card-edges-body card e = rw (test-true (test-eq (length card) (headBytes + 3 * countOf card)) e)
 
--- ---- legs by their places
+-- ---- edges by their places
 
 -- three bytes of a list, and those behind them
 pub drop-three : (l : List ℕ) (i : ℕ) → i + 2 < length l → drop i l ≡ getD l i 0 ∷ getD l (i + 1) 0 ∷ getD l (i + 2) 0 ∷ drop (i + 3) l
@@ -77,28 +77,28 @@ drop-three l i h =
     ∙ ap (λ (m : List ℕ). getD l i 0 ∷ m) (drop-cons l (suc i) 0 (omega arith)
     ∙ ap (λ (m : List ℕ). getD l (suc i) 0 ∷ m) (drop-cons l (suc (suc i)) 0 (omega arith))))
 
--- legs that are tested one by one, as the bytes from i on: refused by one that is no leg or does not rise, or passed on to the next
+-- edges that are tested one by one, as the bytes from i on: refused by one that is no edge or does not rise, or passed on to the next
 module _ (vertices prev : ℕ) (l : List ℕ) (i : ℕ) where
-  legs-here : i + 2 < length l
-      → risingLegs? vertices prev (drop i l) ≡ (legAt? vertices l i && (ltb prev (legAt l i) && risingLegs? vertices (legAt l i) (drop (i + 3) l)))
-  unfolding risingLegs?
-  legs-here h = ap (risingLegs? vertices prev) (drop-three l i h)
+  triples-here : i + 2 < length l
+      → risingTriples? vertices prev (drop i l) ≡ (edgeAt? vertices l i && (ltb prev (edgeAt l i) && risingTriples? vertices (edgeAt l i) (drop (i + 3) l)))
+  unfolding risingTriples?
+  triples-here h = ap (risingTriples? vertices prev) (drop-three l i h)
 
-  pub legs-other : i + 2 < length l → legAt? vertices l i ≡ false → risingLegs? vertices prev (drop i l) ≡ false
-  legs-other h e = legs-here h ∙ and-stop _ e
+  pub triples-other : i + 2 < length l → edgeAt? vertices l i ≡ false → risingTriples? vertices prev (drop i l) ≡ false
+  triples-other h e = triples-here h ∙ and-stop _ e
 
-  pub legs-low : i + 2 < length l → legAt? vertices l i ≡ true → legAt l i ≤ prev → risingLegs? vertices prev (drop i l) ≡ false
-  legs-low h e k = legs-here h ∙ and-pass e ∙ and-stop _ (test-false (test-lt prev (legAt l i)) (λ z. omega (arith, k, z)))
+  pub triples-low : i + 2 < length l → edgeAt? vertices l i ≡ true → edgeAt l i ≤ prev → risingTriples? vertices prev (drop i l) ≡ false
+  triples-low h e k = triples-here h ∙ and-pass e ∙ and-stop _ (test-false (test-lt prev (edgeAt l i)) (λ z. omega (arith, k, z)))
 
-  pub legs-more : i + 2 < length l → legAt? vertices l i ≡ true → prev < legAt l i
-      → risingLegs? vertices prev (drop i l) ≡ risingLegs? vertices (legAt l i) (drop (i + 3) l)
-  legs-more h e k = legs-here h ∙ and-pass e ∙ and-pass (test-true (test-lt prev (legAt l i)) k)
+  pub triples-more : i + 2 < length l → edgeAt? vertices l i ≡ true → prev < edgeAt l i
+      → risingTriples? vertices prev (drop i l) ≡ risingTriples? vertices (edgeAt l i) (drop (i + 3) l)
+  triples-more h e k = triples-here h ∙ and-pass e ∙ and-pass (test-true (test-lt prev (edgeAt l i)) k)
 
-  pub legs-done : length l ≤ i → risingLegs? vertices prev (drop i l) ≡ true
-  unfolding risingLegs?
-  legs-done h = rw (drop-of-length-le l h)
+  pub triples-done : length l ≤ i → risingTriples? vertices prev (drop i l) ≡ true
+  unfolding risingTriples?
+  triples-done h = rw (drop-of-length-le l h)
 
--- the bytes of n legs name n edges, the i-th by the three bytes from 3 × i on
+-- the bytes of n edges name n edges, the i-th by the three bytes from 3 × i on
 pub length-edges : (n : ℕ) (l : List ℕ) → length l ≡ 3 * n → length (edgesOf l) ≡ n
 unfolding edgesOf
 length-edges zero [] e = refl
@@ -108,7 +108,7 @@ length-edges n (a ∷ b ∷ []) e = absurd (omega arith)
 length-edges zero (a ∷ b ∷ c ∷ l) e = absurd (omega arith)
 length-edges (suc n) (a ∷ b ∷ c ∷ l) e = ap suc (length-edges n l (omega arith))
 
-pub getD-edges : (l : List ℕ) (i : ℕ) → 3 * i + 2 < length l → getD (edgesOf l) i 0 ≡ legAt l (3 * i)
+pub getD-edges : (l : List ℕ) (i : ℕ) → 3 * i + 2 < length l → getD (edgesOf l) i 0 ≡ edgeAt l (3 * i)
 unfolding edgesOf
 getD-edges [] i h = absurd (omega arith)
 getD-edges (a ∷ []) i h = absurd (omega arith)
@@ -145,10 +145,10 @@ getD-bytes (x ∷ l) (suc i) h =
 
 -- ---- what passed checks leave
 
--- three bytes that name a leg above prev
+-- three bytes that name an edge above prev
 pub record Leg (vertices prev from label to : ℕ) : Type 0 where
-  pub from-place : from < vertices
-  pub to-place : to < vertices
+  pub from-vertex : from < vertices
+  pub to-vertex : to < vertices
   pub label-least : 1 ≤ label
   pub label-most : label ≤ mostLabel
   pub above : prev < edgeNumber from label to
@@ -158,50 +158,50 @@ test-is : (b : Bool) → Tests b (b ≡ true)
 test-is true = record { yields = λ _. refl; passes = λ _. tt }
 test-is false = record { yields = λ t. absurd t; passes = λ e. absurd (let z : _≡_ {A = ℕ} 0 1 = cc in omega arith) }
 
-test-legs : (vertices prev from label to : ℕ) (more : List ℕ)
-    → Tests (risingLegs? vertices prev (from ∷ label ∷ to ∷ more))
-    (Leg vertices prev from label to × (risingLegs? vertices (edgeNumber from label to) more ≡ true))
-unfolding risingLegs?
-test-legs vertices prev from label to more =
+test-triple : (vertices prev from label to : ℕ) (more : List ℕ)
+    → Tests (risingTriples? vertices prev (from ∷ label ∷ to ∷ more))
+    (Leg vertices prev from label to × (risingTriples? vertices (edgeNumber from label to) more ≡ true))
+unfolding risingTriples?
+test-triple vertices prev from label to more =
     let x = edgeNumber from label to in
     test-map
-    (λ h. (record { from-place = h .0 .0 .0; to-place = h .0 .0 .1; label-least = h .0 .1 .0; label-most = h .0 .1 .1; above = h .1 .0 }, h .1 .1))
-    (λ h. let l = h .0 in (((l .from-place, l .to-place), (l .label-least, l .label-most)), (l .above, h .1)))
+    (λ h. (record { from-vertex = h .0 .0 .0; to-vertex = h .0 .0 .1; label-least = h .0 .1 .0; label-most = h .0 .1 .1; above = h .1 .0 }, h .1 .1))
+    (λ h. let l = h .0 in (((l .from-vertex, l .to-vertex), (l .label-least, l .label-most)), (l .above, h .1)))
     (test-and
     (test-and (test-ends vertices from to) (test-and (test-le 1 label) (test-le label mostLabel)))
-    (test-and (test-lt prev x) (test-is (risingLegs? vertices x more))))
+    (test-and (test-lt prev x) (test-is (risingTriples? vertices x more))))
 
--- such a leg is an edge, and its number has those fields
+-- such an edge is an edge, and its number has those fields
 module _ {vertices prev from label to : ℕ} (few : vertices ≤ mostVertices) (l : Leg vertices prev from label to) where
-  leg-fields : (fromOf (edgeNumber from label to) ≡ from) × (labelOf (edgeNumber from label to) ≡ label) × (toOf (edgeNumber from label to) ≡ to)
-  leg-fields = edge-fields from label to (omega (arith, l .label-most)) (omega (arith, l .to-place))
+  triple-fields : (fromOf (edgeNumber from label to) ≡ from) × (labelOf (edgeNumber from label to) ≡ label) × (toOf (edgeNumber from label to) ≡ to)
+  triple-fields = edge-fields from label to (omega (arith, l .label-most)) (omega (arith, l .to-vertex))
 
-  leg-edge : edge? vertices (edgeNumber from label to) ≡ true
-  leg-edge =
-      let (a, b, c) = leg-fields in
+  triple-edge : edge? vertices (edgeNumber from label to) ≡ true
+  triple-edge =
+      let (a, b, c) = triple-fields in
       test-true (test-edge vertices (edgeNumber from label to))
-      (record { from = rw a (l .from-place); label-low = rw b (l .label-least); label-high = rw b (l .label-most); to = rw c (l .to-place) })
+      (record { from = rw a (l .from-vertex); label-low = rw b (l .label-least); label-high = rw b (l .label-most); to = rw c (l .to-vertex) })
 
 not-false : {A : Type 0} → _≡_ {A = Bool} false true → A
 not-false e = absurd (let z : _≡_ {A = ℕ} 0 1 = cc in omega arith)
 
--- legs that pass: edges of the graph, rising from above prev
-pub record LegsGood (vertices prev : ℕ) (body : List ℕ) : Type 0 where
+-- edges that pass: edges of the graph, rising from above prev
+pub record TriplesGood (vertices prev : ℕ) (body : List ℕ) : Type 0 where
   pub rising : Rising (edgesOf body)
   pub each : (x : ℕ) → x ∈ edgesOf body → (prev < x) × (edge? vertices x ≡ true)
 
-pub legs-good : (vertices prev : ℕ) (body : List ℕ) → risingLegs? vertices prev body ≡ true → vertices ≤ mostVertices → LegsGood vertices prev body
-unfolding edgesOf risingLegs?
-legs-good vertices prev [] e h = record { rising = none; each = λ x m. absurd (List·Memᴰ·not-nil m) }
-legs-good vertices prev (a ∷ []) e h = not-false e
-legs-good vertices prev (a ∷ b ∷ []) e h = not-false e
-legs-good vertices prev (a ∷ b ∷ c ∷ more) e h =
-    let (l, r) = test-yields (test-legs vertices prev a b c more) e in
-    let o = legs-good vertices (edgeNumber a b c) more r h in
+pub triples-good : (vertices prev : ℕ) (body : List ℕ) → risingTriples? vertices prev body ≡ true → vertices ≤ mostVertices → TriplesGood vertices prev body
+unfolding edgesOf risingTriples?
+triples-good vertices prev [] e h = record { rising = none; each = λ x m. absurd (List·Memᴰ·not-nil m) }
+triples-good vertices prev (a ∷ []) e h = not-false e
+triples-good vertices prev (a ∷ b ∷ []) e h = not-false e
+triples-good vertices prev (a ∷ b ∷ c ∷ more) e h =
+    let (l, r) = test-yields (test-triple vertices prev a b c more) e in
+    let o = triples-good vertices (edgeNumber a b c) more r h in
     record {
       rising = next (λ z m. o .each z m .0) (o .rising);
       each = λ x m.
-          ⊎-elim (λ q. rw q (l .above, leg-edge h l)) (λ k. let (p, q) = o .each x k in (omega (arith, p, l .above), q)) (List·Memᴰ·cases-cons m);
+          ⊎-elim (λ q. rw q (l .above, triple-edge h l)) (λ k. let (p, q) = o .each x k in (omega (arith, p, l .above), q)) (List·Memᴰ·cases-cons m);
     }
 
 -- a card that passes the checks of the card alone
@@ -211,23 +211,23 @@ pub record CardGood (card : List ℕ) : Type 0 where
   pub longest-least : 1 ≤ headerOf card .longest
   pub longest-most : headerOf card .longest ≤ mostLongest
   pub whole : length card ≡ headBytes + 3 * countOf card
-  pub legs : risingLegs? (headerOf card .vertices) 0 (drop headBytes card) ≡ true
+  pub triples : risingTriples? (headerOf card .vertices) 0 (drop headBytes card) ≡ true
   pub count : length (edgesOf (drop headBytes card)) ≡ countOf card
 
 good : (card : List ℕ) → Passed (cardChecks card) → CardGood card
-unfolding legs?
-good card (also marked (also version (also longest (also legs done)))) =
+unfolding cardEdges?
+good card (also marked (also version (also longest (also triples done)))) =
     let (k, l) = test-yields (test-longest (headerOf card .longest)) longest in
     let (w, r) = test-yields
-    (test-and (test-eq (length card) (headBytes + 3 * countOf card)) (test-is (risingLegs? (headerOf card .vertices) 0 (drop headBytes card))))
-    legs in
+    (test-and (test-eq (length card) (headBytes + 3 * countOf card)) (test-is (risingTriples? (headerOf card .vertices) 0 (drop headBytes card))))
+    triples in
     record {
       marked = marked;
       version = version;
       longest-least = k;
       longest-most = l;
       whole = w;
-      legs = r;
+      triples = r;
       count = length-edges (countOf card) (drop headBytes card) (length-drop headBytes card ∙ omega (arith, w));
     }
 
@@ -244,7 +244,7 @@ byte-at (x ∷ l) f (suc i) = byte-at l (λ z m. f z (List·Memᴰ·tail m)) i
 pub bytes-known : (l : List ℕ) → ((i : ℕ) → getD l i 0 < 256) → Bytes l
 bytes-known l f x m = let k = in-getD m in rw (k .is) at (f (k .i))
 
--- a card of bytes has at most 256 places
+-- a card of bytes has at most 256 vertices
 pub card-vertices : (card : List ℕ) → Bytes card → headerOf card .vertices ≤ mostVertices
 card-vertices card f = omega (arith, byte-at card f 5)
 
@@ -257,18 +257,18 @@ edges-bytes (x ∷ l) =
     let e : edgeNumber (fromOf x) (labelOf x) (toOf x) ≡ x = omega arith in
     ap₂ _∷_ e (edges-bytes l)
 
--- edges of the graph, rising from above prev, pass as legs
-pub legs-pass : (vertices : ℕ) {edges : List ℕ} (prev : ℕ) → Rising edges → ((x : ℕ) → x ∈ edges → (prev < x) × (edge? vertices x ≡ true))
-    → risingLegs? vertices prev (spread edgeBytes edges) ≡ true
-unfolding spread risingLegs?
-legs-pass vertices prev none f = refl
-legs-pass vertices prev (next {x = x} {l = l} h s) f =
+-- edges of the graph, rising from above prev, pass as edges
+pub triples-pass : (vertices : ℕ) {edges : List ℕ} (prev : ℕ) → Rising edges → ((x : ℕ) → x ∈ edges → (prev < x) × (edge? vertices x ≡ true))
+    → risingTriples? vertices prev (spread edgeBytes edges) ≡ true
+unfolding spread risingTriples?
+triples-pass vertices prev none f = refl
+triples-pass vertices prev (next {x = x} {l = l} h s) f =
     let (a, b) = f x (List·Memᴰ·head refl) in
     let e : edgeNumber (fromOf x) (labelOf x) (toOf x) ≡ x = omega arith in
     let t = test-yields (test-edge vertices x) b in
-    let r = legs-pass vertices x s (λ z m. (h z m, f z (List·Memᴰ·tail m) .1)) in
-    test-true (test-legs vertices prev (fromOf x) (labelOf x) (toOf x) (spread edgeBytes l))
-    (record { from-place = t .from; to-place = t .to; label-least = t .label-low; label-most = t .label-high; above = rw e a }, rw e r)
+    let r = triples-pass vertices x s (λ z m. (h z m, f z (List·Memᴰ·tail m) .1)) in
+    test-true (test-triple vertices prev (fromOf x) (labelOf x) (toOf x) (spread edgeBytes l))
+    (record { from-vertex = t .from; to-vertex = t .to; label-least = t .label-low; label-most = t .label-high; above = rw e a }, rw e r)
 
 bytes-cons : {x : ℕ} {l : List ℕ} → x < 256 → Bytes l → Bytes (x ∷ l)
 bytes-cons h f z m = ⊎-elim (λ e. omega (arith, e, h)) (λ k. f z k) (List·Memᴰ·cases-cons m)
@@ -297,26 +297,26 @@ pub record CardSays (card : List ℕ) (h : Header) (edges : List ℕ) : Type 0 w
   pub passes : cardRefusal card ≡ 0
   pub header : headerOf card ≡ h
   pub count : countOf card ≡ length edges
-  pub legs : edgesOf (drop headBytes card) ≡ edges
+  pub edges-are : edgesOf (drop headBytes card) ≡ edges
   pub bytes : Bytes card
   pub size : length card ≡ headBytes + 3 * length edges
 
 pub card-says : {h : Header} {edges : List ℕ} → Cardable h edges → CardSays (cardOf h edges) h edges
 unfolding cardOf
 card-says {h} {edges} c =
-    let places : h .vertices - 1 + 1 ≡ h .vertices = omega (arith, c .vertices-least) in
+    let vertices-are : h .vertices - 1 + 1 ≡ h .vertices = omega (arith, c .vertices-least) in
     let n : length edges / 256 * 256 + length edges % 256 ≡ length edges = omega arith in
     let size : length (cardOf h edges) ≡ headBytes + 3 * length edges = omega (arith, length-bytes edges) in
-    let rises = legs-pass (h .vertices) 0 (c .rising) (λ x m. (omega (arith, edge-least (h .vertices) x (c .valid x m)), c .valid x m)) in
+    let rises = triples-pass (h .vertices) 0 (c .rising) (λ x m. (omega (arith, edge-least (h .vertices) x (c .valid x m)), c .valid x m)) in
     record {
       passes = card-is (cardOf h edges)
           (pass (test-true (test-marked (cardOf h edges)) (omega (arith, size), refl))
           (pass refl
           (pass (test-true (test-longest (h .longest)) (c .longest-least, c .longest-most))
-          (pass (legs-body (cardOf h edges) (size ∙ ap (λ (k : ℕ). headBytes + 3 * k) (sym n)) ∙ rw places rises) all-pass))));
-      header = ap (λ (v : ℕ). record { vertices = v; longest = h .longest }) places;
+          (pass (card-edges-body (cardOf h edges) (size ∙ ap (λ (k : ℕ). headBytes + 3 * k) (sym n)) ∙ rw vertices-are rises) all-pass))));
+      header = ap (λ (v : ℕ). record { vertices = v; longest = h .longest }) vertices-are;
       count = n;
-      legs = edges-bytes edges;
+      edges-are = edges-bytes edges;
       bytes =
           bytes-cons (omega arith) (bytes-cons (omega arith) (bytes-cons (omega arith) (bytes-cons (omega arith) (bytes-cons (omega arith)
           (bytes-cons (omega (arith, c .vertices-most)) (bytes-cons (omega (arith, c .longest-most))
@@ -326,17 +326,17 @@ card-says {h} {edges} c =
 
 -- ---- writing undoes reading
 
--- legs that pass are the bytes of the edges that they name
-pub bytes-legs : (vertices prev : ℕ) (body : List ℕ) → risingLegs? vertices prev body ≡ true → vertices ≤ mostVertices
+-- edges that pass are the bytes of the edges that they name
+pub bytes-triples : (vertices prev : ℕ) (body : List ℕ) → risingTriples? vertices prev body ≡ true → vertices ≤ mostVertices
     → spread edgeBytes (edgesOf body) ≡ body
-unfolding edgesOf risingLegs? spread
-bytes-legs vertices prev [] e h = refl
-bytes-legs vertices prev (a ∷ []) e h = not-false e
-bytes-legs vertices prev (a ∷ b ∷ []) e h = not-false e
-bytes-legs vertices prev (a ∷ b ∷ c ∷ more) e h =
-    let (l, r) = test-yields (test-legs vertices prev a b c more) e in
-    let (p, q, s) = leg-fields h l in
-    ap₂ _∷_ p (ap₂ _∷_ q (ap₂ _∷_ s (bytes-legs vertices (edgeNumber a b c) more r h)))
+unfolding edgesOf risingTriples? spread
+bytes-triples vertices prev [] e h = refl
+bytes-triples vertices prev (a ∷ []) e h = not-false e
+bytes-triples vertices prev (a ∷ b ∷ []) e h = not-false e
+bytes-triples vertices prev (a ∷ b ∷ c ∷ more) e h =
+    let (l, r) = test-yields (test-triple vertices prev a b c more) e in
+    let (p, q, s) = triple-fields h l in
+    ap₂ _∷_ p (ap₂ _∷_ q (ap₂ _∷_ s (bytes-triples vertices (edgeNumber a b c) more r h)))
 
 -- the bytes of a head
 card-split : (card : List ℕ) → headBytes ≤ length card
@@ -357,12 +357,12 @@ card-again card e f =
     let n = length (edgesOf (drop headBytes card)) in
     let high : n / 256 ≡ getD card 7 0 = omega (arith, g .count, byte-at card f 8) in
     let low : n % 256 ≡ getD card 8 0 = omega (arith, g .count, byte-at card f 8) in
-    let places : getD card 5 0 + 1 - 1 ≡ getD card 5 0 = omega arith in
+    let vertices-are : getD card 5 0 + 1 - 1 ≡ getD card 5 0 = omega arith in
     let version-high : 0 ≡ getD card 3 0 = omega (arith, v) in
     let version-low : 1 ≡ getD card 4 0 = omega (arith, v) in
-    let legs = bytes-legs (headerOf card .vertices) 0 (drop headBytes card) (g .legs) (card-vertices card f) in
+    let triples = bytes-triples (headerOf card .vertices) 0 (drop headBytes card) (g .triples) (card-vertices card f) in
     ap₂ _∷_ (letter m 0 (omega arith)) (ap₂ _∷_ (letter m 1 (omega arith)) (ap₂ _∷_ (letter m 2 (omega arith))
-    (ap₂ _∷_ version-high (ap₂ _∷_ version-low (ap₂ _∷_ places (ap₂ _∷_ refl (ap₂ _∷_ high (ap₂ _∷_ low legs))))))))
+    (ap₂ _∷_ version-high (ap₂ _∷_ version-low (ap₂ _∷_ vertices-are (ap₂ _∷_ refl (ap₂ _∷_ high (ap₂ _∷_ low triples))))))))
     ∙ sym (card-split card (m .0))
   where
     letter : (headBytes ≤ length card) × (take 3 card ≡ mark) → (i : ℕ) → i < 3 → getD mark i 0 ≡ getD card i 0

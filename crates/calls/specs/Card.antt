@@ -26,7 +26,7 @@ wordBytes n = n / 256 ∷ n % 256 ∷ []
 abbrev pub wordAt : List ℕ → ℕ → ℕ
 wordAt bytes i = getD bytes i 0 * 256 + getD bytes (suc i) 0
 
--- mark, version, places less one, k and leg count are 9 bytes; each leg is 3
+-- mark, version, vertices (places) less one, k and the count of edges (legs) are 9 bytes; each edge is 3
 abbrev pub headBytes : ℕ
 headBytes = 9
 
@@ -34,13 +34,13 @@ headBytes = 9
 abbrev pub edgeBytes : ℕ → List ℕ
 edgeBytes x = fromOf x ∷ labelOf x ∷ toOf x ∷ []
 
--- the number that three bytes give, and the test that they name a leg of a layout with so many places. (Each byte is looked at as it stands: a
--- number alone could be that of another leg.)
-abbrev pub legAt : List ℕ → ℕ → ℕ
-legAt bytes i = edgeNumber (getD bytes i 0) (getD bytes (i + 1) 0) (getD bytes (i + 2) 0)
+-- the number that three bytes give, and the test that they name an edge of a layout with so many vertices. (Each byte is looked at as it stands: a
+-- number alone could be that of another edge.)
+abbrev pub edgeAt : List ℕ → ℕ → ℕ
+edgeAt bytes i = edgeNumber (getD bytes i 0) (getD bytes (i + 1) 0) (getD bytes (i + 2) 0)
 
-abbrev pub legAt? : ℕ → List ℕ → ℕ → Bool
-legAt? vertices bytes i = ends? vertices (getD bytes i 0) (getD bytes (i + 2) 0) && label? (getD bytes (i + 1) 0)
+abbrev pub edgeAt? : ℕ → List ℕ → ℕ → Bool
+edgeAt? vertices bytes i = ends? vertices (getD bytes i 0) (getD bytes (i + 2) 0) && label? (getD bytes (i + 1) 0)
 
 -- "Bytes: the mark PRC, a 16-bit version 1, places less one, k, a 16-bit leg count, then from, colour, to for each leg"
 unfoldable pub cardOf : Header → List ℕ → List ℕ
@@ -61,30 +61,30 @@ headerOf card = record { vertices = getD card 5 0 + 1; longest = getD card 6 0 }
 abbrev pub countOf : List ℕ → ℕ
 countOf card = wordAt card 7
 
--- the numbers of the legs named by bytes
+-- the numbers of the edges named by bytes
 unfoldable pub edgesOf : List ℕ → List ℕ
 edgesOf [] = []
 edgesOf (from ∷ []) = []
 edgesOf (from ∷ label ∷ []) = []
 edgesOf (from ∷ label ∷ to ∷ more) = edgeNumber from label to ∷ edgesOf more
 
--- those bytes name whole legs of a layout with so many places, rising from above prev
-unfoldable pub risingLegs? : ℕ → ℕ → List ℕ → Bool
-risingLegs? vertices prev [] = true
-risingLegs? vertices prev (from ∷ []) = false
-risingLegs? vertices prev (from ∷ label ∷ []) = false
-risingLegs? vertices prev (from ∷ label ∷ to ∷ more) =
-    (ends? vertices from to && label? label) && (ltb prev (edgeNumber from label to) && risingLegs? vertices (edgeNumber from label to) more)
+-- those bytes name whole edges of a layout with so many vertices, rising from above prev
+unfoldable pub risingTriples? : ℕ → ℕ → List ℕ → Bool
+risingTriples? vertices prev [] = true
+risingTriples? vertices prev (from ∷ []) = false
+risingTriples? vertices prev (from ∷ label ∷ []) = false
+risingTriples? vertices prev (from ∷ label ∷ to ∷ more) =
+    (ends? vertices from to && label? label) && (ltb prev (edgeNumber from label to) && risingTriples? vertices (edgeNumber from label to) more)
 
 -- "16 length not 9 + 3 × legs, or legs not rising legs of this layout"
-unfoldable pub legs? : List ℕ → Bool
-legs? card = eqb (length card) (headBytes + 3 * countOf card) && risingLegs? (headerOf card .vertices) 0 (drop headBytes card)
+unfoldable pub cardEdges? : List ℕ → Bool
+cardEdges? card = eqb (length card) (headBytes + 3 * countOf card) && risingTriples? (headerOf card .vertices) 0 (drop headBytes card)
 
 -- ---- reading
 
 -- what is checked of the card alone
 abbrev pub cardChecks : List ℕ → List Check
-cardChecks card = (14, marked? card) ∷ (15, version? card) ∷ (2, longest? (headerOf card .longest)) ∷ (16, legs? card) ∷ []
+cardChecks card = (14, marked? card) ∷ (15, version? card) ∷ (2, longest? (headerOf card .longest)) ∷ (16, cardEdges? card) ∷ []
 
 unfoldable pub cardRefusal : List ℕ → ℕ
 cardRefusal card = firstRefusal (cardChecks card)

@@ -22,7 +22,7 @@ pub record Header : Type 0 where
 abbrev pub graphOf : Header → List ℕ → Graph
 graphOf h edges = record { vertices = h .vertices; longest = h .longest; edges = edges }
 
--- leg, index and work memory. (An opening is lent no work memory: there it is empty.)
+-- edge (leg), index and work memory. (An opening is lent no work memory: there it is empty.)
 pub record Memory : Type 0 where
   pub edges : List ℕ
   pub index : List ℕ
@@ -65,7 +65,7 @@ pub record Leaves (c : Change) (r : Answer) (edges index work : List ℕ) : Type
 abbrev pub fits? : Header → List ℕ → Memory → Bool
 fits? h edges m = leb (length (determined (graphOf h edges))) (length (m .index))
 
--- What insertion, removal and card reading have in common, once the header and the wanted edges are known. Accepted: leg memory holds the
+-- What insertion, removal and card reading have in common, once the header and the wanted edges are known. Accepted: edge memory holds the
 -- edges and index memory the entries that they determine, each "then zeros". Otherwise the refusal 13. Both leave work memory zero.
 unfoldable pub settle : (given : Handed) (h : Header) (wanted : List ℕ) → Memory → Change
 settle given h wanted m =
@@ -100,7 +100,7 @@ openCall h m =
       memory = record { edges = zeroed (m .edges); index = zeroed (m .index); work = m .work };
     })
 
--- what an insertion or a removal is given: the record, the leg as named, and memory
+-- what an insertion or a removal is given: the record, the edge as named, and memory
 module _ (h : Header) (from label to : ℕ) (m : Memory) where
   -- "1 2 3 4 5 6", with which both begin
   abbrev pub changeChecks : List Check
@@ -116,7 +116,7 @@ module _ (h : Header) (from label to : ℕ) (m : Memory) where
   unfoldable pub changeRefusal : ℕ
   changeRefusal = firstRefusal changeChecks
 
-  -- "Lay 1 2 3 4 5 6 7 9 13": 7 laid already, 9 fewer leg slots than legs wanted
+  -- "Lay 1 2 3 4 5 6 7 9 13": 7 laid already, 9 fewer edge slots than edges wanted
   unfoldable pub insertRefusal : ℕ
   insertRefusal =
       firstRefusal (

@@ -6,7 +6,7 @@ use Rattle.model.specs.Patterns.{keyed?, minRepeat}
 use Rattle.model.specs.Query.{indexMemory?, answers?, Answered, Yes, No, Refused}
 use Rattle.calls.specs.Checks.{vertices?, longest?, ends?, firstRefusal}
 
--- what the call is given: the record's places and k, start and destination, the pattern as keyed, and index memory
+-- what the call is given: the header's vertices and k, start and destination, the pattern as keyed, and index memory
 module _ (vertices longest start destination : ℕ) (pattern index : List ℕ) where
   -- "Question 1 2 10 11 12."
   unfoldable pub queryRefusal : ℕ

@@ -13,7 +13,7 @@ use Rattle.model.specs.Replies.{replyOf}
 use Rattle.model.specs.declared.SearchReply.{SearchReply}
 use Rattle.calls.specs.Checks.{vertices?, longest?, ends?, firstRefusal}
 
--- what the call is given: the record's places and k, start and destination, the pattern as keyed, leg memory and work memory
+-- what the call is given: the header's vertices and k, start and destination, the pattern as keyed, edge memory and work memory
 module _ (vertices longest start destination : ℕ) (pattern edges work : List ℕ) where
   -- "Plain check 1 2 3 4 10 11."
   unfoldable pub searchRefusal : ℕ

@@ -1,4 +1,4 @@
--- Edge memory as it is filled from a card: the legs one by one, and zeros behind them.
+-- Edge memory as it is filled from a card: the edges one by one, and zeros behind them.
 use mathlib.Core.Path.{_≡_, sym, ap, _∙_}
 use mathlib.Core.List.{List, _++_, append-nil}
 use Prim.Native.Nat.{ℕ, _+_, _-_, _*_, _<_}
@@ -7,7 +7,7 @@ use native.Mathlib.Omega.{arith}
 use lib.ListN.{length, getD, take, drop, set, replicate, length-drop, drop-of-length-le, List·getD-append}
 use lib.Seq.{take-all, take-at, drop-at, getD-drop}
 use Rattle.model.specs.Lists.{filled, zeroed}
-use Rattle.calls.specs.Card.{headBytes, legAt, edgesOf}
+use Rattle.calls.specs.Card.{headBytes, edgeAt, edgesOf}
 use Rattle.calls.proofs.Card.{length-edges, getD-edges}
 use Rattle.edges.proofs.Mix.{Mixed, front-turn}
 use Rattle.card.specs.Card.{Fillable}
@@ -29,23 +29,23 @@ zeros-behind l s n {cur} {zeros} e f z =
     part-last cur zeros n ∙ ap (λ (m : List ℕ). m ++ zeros) front ∙ ap (λ (m : List ℕ). l ++ m) (z ∙ ap (λ (k : ℕ). replicate k 0) size)
 
 module _ {card edges : List ℕ} {n : ℕ} (p : Fillable card n edges) where
-  abbrev pub legs : List ℕ
-  legs = edgesOf (drop headBytes card)
+  abbrev pub cardEdges : List ℕ
+  cardEdges = edgesOf (drop headBytes card)
 
   body-size : length (drop headBytes card) ≡ 3 * n
   body-size = length-drop headBytes card ∙ omega (arith, p .whole)
 
-  pub legs-size : length legs ≡ n
-  legs-size = length-edges n (drop headBytes card) body-size
+  pub card-edges-size : length cardEdges ≡ n
+  card-edges-size = length-edges n (drop headBytes card) body-size
 
-  pub fill-turn : {cur : List ℕ} {i v : ℕ} → Mixed (legs ++ drop (length legs) edges) edges cur i → i < n → v ≡ legAt card (headBytes + 3 * i)
-      → Mixed (legs ++ drop (length legs) edges) edges (set cur i v) (i + 1)
+  pub fill-turn : {cur : List ℕ} {i v : ℕ} → Mixed (cardEdges ++ drop (length cardEdges) edges) edges cur i → i < n → v ≡ edgeAt card (headBytes + 3 * i)
+      → Mixed (cardEdges ++ drop (length cardEdges) edges) edges (set cur i v) (i + 1)
   fill-turn {cur} {i} {v} m h e = front-turn m (omega (arith, m .size, p .room)) (e ∙ sym (there ∙ here))
     where
-      there : getD (legs ++ drop (length legs) edges) i 0 ≡ getD legs i 0
-      there = List·getD-append legs (drop (length legs) edges) 0 i (omega (arith, legs-size, h))
+      there : getD (cardEdges ++ drop (length cardEdges) edges) i 0 ≡ getD cardEdges i 0
+      there = List·getD-append cardEdges (drop (length cardEdges) edges) 0 i (omega (arith, card-edges-size, h))
 
-      here : getD legs i 0 ≡ legAt card (headBytes + 3 * i)
+      here : getD cardEdges i 0 ≡ edgeAt card (headBytes + 3 * i)
       here =
           let a : headBytes + (3 * i + 1) ≡ headBytes + 3 * i + 1 = omega arith in
           let b : headBytes + (3 * i + 2) ≡ headBytes + 3 * i + 2 = omega arith in

@@ -15,32 +15,32 @@ use Rattle.calls.specs.Card.{headBytes, edgeBytes, cardOf}
 use Rattle.calls.proofs.Card.{length-bytes, getD-bytes}
 use Rattle.edges.proofs.Mix.{Mixed, front-turn}
 use Rattle.edges.proofs.Copying.{save-start, save-end}
-use Rattle.card.specs.Card.{headOf, Legs, Writable}
+use Rattle.card.specs.Card.{headOf, Body, Writable}
 use Rattle.card.proofs.Filling.{part-last, part-all}
 
 abbrev pub bytes : List ℕ → List ℕ
 bytes edges = spread edgeBytes edges
 
--- the part of the output behind the head, once all legs are written
-abbrev pub legsOver : (edges out : List ℕ) → List ℕ
-legsOver edges out = bytes edges ++ drop (length (bytes edges)) out
+-- the part of the output behind the head, once all edges are written
+abbrev pub bytesOver : (edges out : List ℕ) → List ℕ
+bytesOver edges out = bytes edges ++ drop (length (bytes edges)) out
 
-module _ {edges out : List ℕ} (p : Legs edges out) where
+module _ {edges out : List ℕ} (p : Body edges out) where
   bytes-room : length (bytes edges) ≤ length out
   bytes-room = omega (arith, length-bytes edges, p .room)
 
-  pub legs-start : Mixed (legsOver edges out) out out 0
-  legs-start = save-start (bytes edges) out bytes-room
+  pub body-start : Mixed (bytesOver edges out) out out 0
+  body-start = save-start (bytes edges) out bytes-room
 
-  pub leg-narrow : (i : ℕ) → i < length edges → fromOf (getD edges i 0) < 256
-  leg-narrow i h = p .narrow (getD edges i 0) (getD-in edges i h)
+  pub edge-narrow : (i : ℕ) → i < length edges → fromOf (getD edges i 0) < 256
+  edge-narrow i h = p .narrow (getD edges i 0) (getD-in edges i h)
 
-  module _ {cur : List ℕ} {i : ℕ} (m : Mixed (legsOver edges out) out cur (3 * i)) where
-    pub legs-turn : i < length edges
-        → Mixed (legsOver edges out) out
+  module _ {cur : List ℕ} {i : ℕ} (m : Mixed (bytesOver edges out) out cur (3 * i)) where
+    pub body-turn : i < length edges
+        → Mixed (bytesOver edges out) out
         (set (set (set cur (3 * i) (fromOf (getD edges i 0))) (3 * i + 1) (labelOf (getD edges i 0))) (3 * i + 2) (toOf (getD edges i 0)))
         (3 * (i + 1))
-    legs-turn h =
+    body-turn h =
         let r = getD-bytes edges i h in
         let one : 3 * i + 1 + 1 ≡ 3 * i + 2 = omega arith in
         let two : 3 * i + 2 + 1 ≡ 3 * (i + 1) = omega arith in
@@ -48,22 +48,22 @@ module _ {edges out : List ℕ} (p : Legs edges out) where
         let b = rw one at (front-turn a (room a (3 * i + 1) (omega arith)) (sym (at (3 * i + 1) (omega arith) ∙ r .label))) in
         rw two at (front-turn b (room b (3 * i + 2) (omega arith)) (sym (at (3 * i + 2) (omega arith) ∙ r .to)))
       where
-        at : (k : ℕ) → k < 3 * length edges → getD (legsOver edges out) k 0 ≡ getD (bytes edges) k 0
+        at : (k : ℕ) → k < 3 * length edges → getD (bytesOver edges out) k 0 ≡ getD (bytes edges) k 0
         at k u = List·getD-append (bytes edges) (drop (length (bytes edges)) out) 0 k (omega (arith, length-bytes edges, u))
 
-        room : {l : List ℕ} {j : ℕ} → Mixed (legsOver edges out) out l j → (k : ℕ) → k < 3 * length edges → k < length l
+        room : {l : List ℕ} {j : ℕ} → Mixed (bytesOver edges out) out l j → (k : ℕ) → k < 3 * length edges → k < length l
         room n k u = omega (arith, n .size, p .room, u)
 
-    pub legs-end : length edges ≤ i → cur ≡ bytes edges ++ drop (3 * length edges) out
-    legs-end h =
+    pub body-end : length edges ≤ i → cur ≡ bytes edges ++ drop (3 * length edges) out
+    body-end h =
         save-end (bytes edges) out bytes-room m (omega (arith, length-bytes edges, h))
         ∙ ap (λ (k : ℕ). bytes edges ++ drop k out) (length-bytes edges)
 
 module _ {h : Header} {edges output : List ℕ} (p : Writable h edges output) where
-  -- behind a head of nine bytes there is room for the legs
-  pub legs-lent : {out : List ℕ} → out ≡ headOf (h .vertices) (h .longest) (length edges) ++ drop headBytes output
-      → Legs edges (take (length out - headBytes) (drop headBytes out))
-  legs-lent {out} e =
+  -- behind a head of nine bytes there is room for the edges
+  pub body-lent : {out : List ℕ} → out ≡ headOf (h .vertices) (h .longest) (length edges) ++ drop headBytes output
+      → Body edges (take (length out - headBytes) (drop headBytes out))
+  body-lent {out} e =
       record {
         narrow = λ x m. omega (arith, (test-yields (test-edge (h .vertices) x) (p .valid x m)) .from, p .vertices-most);
         room =

@@ -13,7 +13,7 @@ use Rattle.calls.specs.Card.{mark, wordBytes, headBytes, headerOf, countOf, car
 use Rattle.card.specs.declared.Checked.{Checked}
 use Rattle.card.specs.declared.Checked.the-variants.{Layout, Refused}
 
--- all checks of the card alone have passed: its header, and the number of its legs
+-- all checks of the card alone have passed: its header, and the number of its edges
 pub record Passes (card : List ℕ) (h : Header) (n : ℕ) : Type 0 where
   pub is : cardRefusal card ≡ 0
   pub header : h ≡ headerOf card
@@ -23,7 +23,7 @@ abbrev pub Checks : List ℕ → Checked → Type 0
 Checks card (Layout vertices longest n) = Passes card (record { vertices = vertices; longest = longest }) n
 Checks card (Refused r) = cardRefusal card ≡ numberOf r
 
--- the n legs of a card have slots
+-- the n edges of a card have slots
 pub record Fillable (card : List ℕ) (n : ℕ) (edges : List ℕ) : Type 0 where
   pub whole : length card ≡ headBytes + 3 * n
   pub room : n ≤ length edges
@@ -37,7 +37,7 @@ pub record Writable (h : Header) (edges output : List ℕ) : Type 0 where
   pub valid : (x : ℕ) → x ∈ edges → edge? (h .vertices) x ≡ true
   pub room : headBytes + 3 * length edges ≤ length output
 
--- the first nine bytes of a card with n legs, and what fits in them
+-- the first nine bytes of a card with n edges, and what fits in them
 abbrev pub headOf : ℕ → ℕ → ℕ → List ℕ
 headOf vertices longest n = mark ++ wordBytes 1 ++ ((vertices - 1) ∷ longest ∷ []) ++ wordBytes n
 
@@ -49,6 +49,6 @@ pub record Head (vertices longest n : ℕ) (output : List ℕ) : Type 0 where
   pub room : headBytes ≤ length output
 
 -- edges whose ends are bytes, with room for three bytes each
-pub record Legs (edges output : List ℕ) : Type 0 where
+pub record Body (edges output : List ℕ) : Type 0 where
   pub narrow : (x : ℕ) → x ∈ edges → fromOf x < 256
   pub room : 3 * length edges ≤ length output

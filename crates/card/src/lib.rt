@@ -1,4 +1,4 @@
-// The layout card: checks of its bytes, its legs read into edge memory, and a card written.
+// The layout card: checks of its bytes, its edges read into edge memory, and a card written.
 use model::Refusal;
 ghost use mathlib.Core.Path.{_≡_};
 ghost use mathlib.Core.List.{_++_};
@@ -6,13 +6,13 @@ ghost use mathlib.Core.Bool.{Bool};
 ghost use Prim.Native.Nat.{_+_, _*_, _%_, _≤_, _<_};
 ghost use lib.ListN.{length, drop};
 ghost use Rattle.model.specs.Lists.{filled, spread};
-ghost use Rattle.calls.specs.Card.{headBytes, marked?, wordAt, edgeBytes, legAt, legAt?, edgesOf, risingLegs?, legs?, cardOf};
-ghost use Rattle.card.specs.Card.{Checks, Fillable, Head, headOf, Legs, Writable};
+ghost use Rattle.calls.specs.Card.{headBytes, marked?, wordAt, edgeBytes, edgeAt, edgeAt?, edgesOf, risingTriples?, cardEdges?, cardOf};
+ghost use Rattle.card.specs.Card.{Checks, Fillable, Head, headOf, Body, Writable};
 
-// Mark, version, places less one, k and leg count; each leg is 3 bytes behind them.
+// Mark, version, vertices less one, k and edge count; each edge is 3 bytes behind them.
 const HEAD: usize = 9;
 
-// What the checks of a card alone find: places, k and how many legs, or the refusal.
+// What the checks of a card alone find: vertices, k and how many edges, or the refusal.
 pub enum Checked {
     Layout(u32, u32, usize),
     Refused(Refusal),
@@ -43,10 +43,10 @@ fn word(card: &[u8], at: usize) -> u32
     high * 256 + low
 }
 
-// Whether the three bytes from `at` on name a leg of a layout with so many places. Ends and colour are compared as they stand.
-fn is_leg(vertices: u32, bytes: &[u8], at: usize) -> bool
+// Whether the three bytes from `at` on name an edge of a layout with so many vertices. Ends and label are compared as they stand.
+fn is_edge_at(vertices: u32, bytes: &[u8], at: usize) -> bool
     requires { ⌜ at + 2 < length (now bytes) ⌝ }
-    ensures { λ r. ⌜ r ≡ legAt? vertices (now (bytes .entry)) at ⌝ }
+    ensures { λ r. ⌜ r ≡ edgeAt? vertices (now (bytes .entry)) at ⌝ }
 {
     let from = bytes[at] as u32;
     let label = bytes[at + 1] as u32;
@@ -57,24 +57,24 @@ fn is_leg(vertices: u32, bytes: &[u8], at: usize) -> bool
     false
 }
 
-// The number of the leg that they name.
-fn leg(bytes: &[u8], at: usize) -> u32
+// The number of the edge that they name.
+fn edge_at(bytes: &[u8], at: usize) -> u32
     requires { ⌜ at + 2 < length (now bytes) ⌝ }
-    ensures { λ r. ⌜ r ≡ legAt (now (bytes .entry)) at ⌝ }
+    ensures { λ r. ⌜ r ≡ edgeAt (now (bytes .entry)) at ⌝ }
 {
     bytes[at] as u32 * 4096 + bytes[at + 1] as u32 * 256 + bytes[at + 2] as u32
 }
 
-// Whether the legs named by the bytes are rising legs of a layout with so many places.
+// Whether the edges named by the bytes are rising edges of a layout with so many vertices.
 fn are_rising(vertices: u32, body: &[u8]) -> bool
     requires { ⌜ length (now body) % 3 ≡ 0 ⌝ }
-    ensures { λ r. ⌜ r ≡ risingLegs? vertices 0 (now (body .entry)) ⌝ }
+    ensures { λ r. ⌜ r ≡ risingTriples? vertices 0 (now (body .entry)) ⌝ }
 {
     let mut prev: u32 = 0;
     let mut i = 0;
     while i < body.len() {
-        if is_leg(vertices, body, i) {
-            let x = leg(body, i);
+        if is_edge_at(vertices, body, i) {
+            let x = edge_at(body, i);
             if x <= prev {
                 return false;
             }
@@ -88,9 +88,9 @@ fn are_rising(vertices: u32, body: &[u8]) -> bool
 }
 
 // Check 16.
-fn has_legs(card: &[u8]) -> bool
+fn has_edges(card: &[u8]) -> bool
     requires { ⌜ headBytes ≤ length (now card) ⌝ }
-    ensures { λ r. ⌜ r ≡ legs? (now (card .entry)) ⌝ }
+    ensures { λ r. ⌜ r ≡ cardEdges? (now (card .entry)) ⌝ }
 {
     let n = word(card, 7) as usize;
     if card.len() != HEAD + 3 * n {
@@ -109,7 +109,7 @@ pub fn check(card: &[u8]) -> Checked
         }
         let longest = card[6] as u32;
         if checks::is_longest(longest) {
-            if has_legs(card) {
+            if has_edges(card) {
                 return Checked::Layout(card[5] as u32 + 1, longest, word(card, 7) as usize);
             }
             return Checked::Refused(Refusal::CardEdges);
@@ -119,20 +119,20 @@ pub fn check(card: &[u8]) -> Checked
     Checked::Refused(Refusal::CardMark)
 }
 
-// Fills edge memory with the n legs of a card, and zeros behind them.
+// Fills edge memory with the n edges of a card, and zeros behind them.
 pub fn fill(card: &[u8], n: usize, edges: &mut [u32])
     requires { ⌜ Fillable (now card) n (now edges) ⌝ }
     ensures { λ _. ⌜ now (edges .exit) ≡ filled (length (now (edges .entry))) (edgesOf (drop headBytes (now (card .entry)))) ⌝ }
 {
     let mut i = 0;
     while i < n {
-        edges[i] = leg(card, HEAD + 3 * i);
+        edges[i] = edge_at(card, HEAD + 3 * i);
         i += 1;
     }
     edges::clear_edges(&mut edges[n..]);
 }
 
-// The mark first, then version, places less one, k and the leg count.
+// The mark first, then version, vertices less one, k and the edge count.
 fn write_head(vertices: u32, longest: u32, n: usize, output: &mut [u8])
     requires { ⌜ Head vertices longest n (now output) ⌝ }
     ensures { λ _. ⌜ now (output .exit) ≡ headOf vertices longest n ++ drop headBytes (now (output .entry)) ⌝ }
@@ -148,9 +148,9 @@ fn write_head(vertices: u32, longest: u32, n: usize, output: &mut [u8])
     output[8] = (n % 256) as u8;
 }
 
-// From, colour and to of each edge.
-fn write_legs(edges: &[u32], output: &mut [u8])
-    requires { ⌜ Legs (now edges) (now output) ⌝ }
+// From, label and to of each edge.
+fn write_edges(edges: &[u32], output: &mut [u8])
+    requires { ⌜ Body (now edges) (now output) ⌝ }
     ensures { λ _. ⌜ now (output .exit) ≡ spread edgeBytes (now (edges .entry)) ++ drop (3 * length (now (edges .entry))) (now (output .entry)) ⌝ }
 {
     let mut i = 0;
@@ -173,5 +173,5 @@ pub fn write(vertices: u32, longest: u32, edges: &[u32], output: &mut [u8])
         ⌝ }
 {
     write_head(vertices, longest, edges.len(), output);
-    write_legs(edges, &mut output[HEAD..]);
+    write_edges(edges, &mut output[HEAD..]);
 }

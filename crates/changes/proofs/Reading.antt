@@ -17,7 +17,7 @@ use Rattle.calls.specs.Change.{Header, Memory, none as no-record, Change, build
 use Rattle.calls.specs.Card.{headBytes, headerOf, countOf, edgesOf, cardChecks, cardRefusal, readRefusal, readCall}
 use Rattle.calls.proofs.Checks.{none, pass, stop, first-is, Passed, done, also, passes}
 use Rattle.calls.proofs.Change.{stop-first, pass-first, front-passes, change-refused, change-accepted, refused-hands, handedBy, settle-hands}
-use Rattle.calls.proofs.Card.{CardGood, card-good, legs-good}
+use Rattle.calls.proofs.Card.{CardGood, card-good, triples-good}
 use Rattle.card.specs.Card.{Fillable}
 use Rattle.changes.specs.Changes.{Reads}
 use Rattle.changes.proofs.Trying.{Wanted}
@@ -80,7 +80,7 @@ good card m e = go (passes _ tt (sym (pass-first (cardChecks card) _ tt alone) �
           room = test-yields (test-le (leastWork + length (m .index)) (length (m .work))) c;
         }
 
--- ---- the legs of the card, and what is left
+-- ---- the edges of the card, and what is left
 
 -- by an answer that is known
 pub leaves-as : {c : Change} {r r′ : Answer} {edges index work : List ℕ} → r ≡ r′ → Leaves c r edges index work → Leaves c r′ edges index work
@@ -93,10 +93,10 @@ module _ {card : List ℕ} {m : Memory} {h : Header} {n : ℕ} (p : Reads card m
   pub read-fillable : Fillable card n (m .edges)
   read-fillable = rw (p .count) (record { whole = good card m (p .is) .alone .whole; room = good card m (p .is) .fits })
 
-  -- the places byte is a byte
+  -- the byte of the vertices is a byte
   pub read-wanted : getD card 5 0 < 256 → Wanted h (edgesOf (drop headBytes card)) m
   read-wanted b = rw (p .header) (let g = good card m (p .is) in
-      let l = legs-good (headerOf card .vertices) 0 (drop headBytes card) (g .alone .legs) (omega (arith, b)) in
+      let l = triples-good (headerOf card .vertices) 0 (drop headBytes card) (g .alone .triples) (omega (arith, b)) in
       record {
         header = record { vertices-least = omega arith; vertices-most = omega (arith, b); longest-least = g .alone .longest-least; longest-most = g .alone .longest-most };
         few = g .few;

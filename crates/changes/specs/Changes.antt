@@ -9,7 +9,7 @@ use Rattle.changes.specs.declared.CardRead.{CardRead}
 use Rattle.changes.specs.declared.Layout.{Layout}
 use Rattle.changes.specs.declared.Layout.the-variants.{Holds, Refused as LayoutRefused}
 
--- all checks of a card reading have passed: the card's header, and the number of its legs
+-- all checks of a card reading have passed: the card's header, and the number of its edges
 pub record Reads (card : List ℕ) (m : Memory) (h : Header) (n : ℕ) : Type 0 where
   pub is : readRefusal card m ≡ 0
   pub header : h ≡ headerOf card

@@ -11,7 +11,7 @@ ghost use Rattle.changes.specs.Changes.{Readings, CardMeets};
 
 const MOST_EDGES: usize = 1024;
 
-// A card's vertices, longest pattern and number of legs, or the refusal.
+// A card's vertices, longest pattern and number of edges, or the refusal.
 enum Layout {
     Holds(u32, u32, usize),
     Refused(Refusal),

@@ -13,16 +13,16 @@ use Rattle.model.specs.Entries.{determined}
 use Rattle.model.proofs.Tests.{test-true, test-false, test-yields, test-fails, test-and, test-eq, test-le, test-lt, test-T}
 use Rattle.calls.specs.Checks.{Check, firstRefusal}
 use Rattle.calls.specs.Change.{Header, Memory, graphOf, none, buildRoom?, fits?}
-use Rattle.calls.specs.Card.{Bytes, headBytes, marked?, headerOf, countOf, edgesOf, risingLegs?, legs?, cardChecks, readRefusal, readCall}
+use Rattle.calls.specs.Card.{Bytes, headBytes, marked?, headerOf, countOf, edgesOf, risingTriples?, cardEdges?, cardChecks, readRefusal, readCall}
 use Rattle.calls.proofs.Checks.{test-longest}
 use Rattle.calls.proofs.Settling.{Result, settledChange, settled}
 use Rattle.calls.proofs.Passing.{passing}
-use Rattle.calls.proofs.Card.{marked-short, marked-at, legs-long, legs-body, legs-good, length-edges, card-vertices}
-use Rattle.demands.specs.Ledger.{Book, rising, bookEntries, narrow, full, byte, legCount, legAt, stray, falls, cardBook, cardNumber, nothing, turn}
+use Rattle.calls.proofs.Card.{marked-short, marked-at, card-edges-long, card-edges-body, triples-good, length-edges, card-vertices}
+use Rattle.demands.specs.Ledger.{Book, rising, bookEntries, narrow, full, byte, edgeCount, edgeAt, stray, falls, cardBook, cardNumber, nothing, turn}
 use Rattle.demands.specs.Station.{Station, read, memoryOf, fedBy}
-use Rattle.demands.proofs.Rising.{Legs, rising-is}
+use Rattle.demands.proofs.Rising.{EdgesOf, rising-is}
 use Rattle.demands.proofs.Numbers.{Gives, gives-none, chain, above-not, either-not, outside-not}
-use Rattle.demands.proofs.CardReader.{legs-agree, edges-agree}
+use Rattle.demands.proofs.CardReader.{triples-agree, edges-agree}
 use Rattle.demands.proofs.Steps.{recordOf, stationOf, Fine, edge-slots, index-slots, Reaches, Matches, matches, begins}
 
 module _ (card : List ℕ) (bytes : Bytes card) (work : List ℕ) where
@@ -30,7 +30,7 @@ module _ (card : List ℕ) (bytes : Bytes card) (work : List ℕ) where
   wanted = edgesOf (drop headBytes card)
 
   abbrev n : ℕ
-  n = legCount card
+  n = edgeCount card
 
   -- "14 under 9 bytes or mark wrong"
   fourteen : (ltb (length card) 9 || (not (eqb (byte card 0) 80) || (not (eqb (byte card 1) 82) || not (eqb (byte card 2) 67)))) ≡ not (marked? card)
@@ -43,39 +43,39 @@ module _ (card : List ℕ) (bytes : Bytes card) (work : List ℕ) where
       ]
 
   -- "16 length not 9 + 3 × legs, or legs not rising legs of this layout"
-  sixteen : (not (eqb (length card) (9 + 3 * n)) || (any? (stray card) (upTo n) || any? (falls card) (upTo (n - 1)))) ≡ not (legs? card)
+  sixteen : (not (eqb (length card) (9 + 3 * n)) || (any? (stray card) (upTo n) || any? (falls card) (upTo (n - 1)))) ≡ not (cardEdges? card)
   sixteen = go (eqb (length card) (9 + 3 * n)) refl
     where
       go : (b : Bool) → eqb (length card) (9 + 3 * n) ≡ b
-          → (not (eqb (length card) (9 + 3 * n)) || (any? (stray card) (upTo n) || any? (falls card) (upTo (n - 1)))) ≡ not (legs? card)
-      go true e = let size = test-yields (test-eq (length card) (9 + 3 * n)) e in rw (e, legs-body card size) (legs-agree card size)
-      go false e = rw (e, legs-long card (test-fails (test-eq (length card) (9 + 3 * n)) e)) refl
+          → (not (eqb (length card) (9 + 3 * n)) || (any? (stray card) (upTo n) || any? (falls card) (upTo (n - 1)))) ≡ not (cardEdges? card)
+      go true e = let size = test-yields (test-eq (length card) (9 + 3 * n)) e in rw (e, card-edges-body card size) (triples-agree card size)
+      go false e = rw (e, card-edges-long card (test-fails (test-eq (length card) (9 + 3 * n)) e)) refl
 
   -- what is known of a card whose own checks have passed
   record Whole : Type 0 where
     size : length card ≡ 9 + 3 * n
     count : length wanted ≡ n
-    legs : map (legAt card) (upTo n) ≡ wanted
-    valid : Legs (headerOf card .vertices) wanted
+    edges-are : map (edgeAt card) (upTo n) ≡ wanted
+    valid : EdgesOf (headerOf card .vertices) wanted
     rises : rising wanted ≡ wanted
 
-  whole : legs? card ≡ true → Whole
-  unfolding legs?
+  whole : cardEdges? card ≡ true → Whole
+  unfolding cardEdges?
   whole e =
-      let (a, b) = test-yields (test-and (test-eq (length card) (9 + 3 * n)) (test-T (risingLegs? (headerOf card .vertices) 0 (drop headBytes card)))) e in
-      let good = legs-good (headerOf card .vertices) 0 (drop headBytes card) (test-true (test-T (risingLegs? (headerOf card .vertices) 0 (drop headBytes card))) b) (card-vertices card bytes) in
-      let valid : Legs (headerOf card .vertices) wanted = λ x m. good .each x m .1 in
+      let (a, b) = test-yields (test-and (test-eq (length card) (9 + 3 * n)) (test-T (risingTriples? (headerOf card .vertices) 0 (drop headBytes card)))) e in
+      let good = triples-good (headerOf card .vertices) 0 (drop headBytes card) (test-true (test-T (risingTriples? (headerOf card .vertices) 0 (drop headBytes card))) b) (card-vertices card bytes) in
+      let valid : EdgesOf (headerOf card .vertices) wanted = λ x m. good .each x m .1 in
       record {
         size = a;
         count = length-edges n (drop headBytes card) (length-drop headBytes card ∙ (omega (arith, a)));
-        legs = sym (edges-agree card a);
+        edges-are = sym (edges-agree card a);
         valid = valid;
         rises = rising-is wanted (card-vertices card bytes) valid (good .rising) (λ x m. m) (λ x m. m);
       }
 
   book-entries : Whole → bookEntries (cardBook card) ≡ determined (graphOf (headerOf card) wanted)
   unfolding cardBook
-  book-entries w = rw (w .legs, w .rises) refl
+  book-entries w = rw (w .edges-are, w .rises) refl
 
   module _ (s : Station) {slots room : ℕ} (wide : length (s .edges) ≡ slots) (long : length (s .index) ≡ room) where
     abbrev m : Memory
@@ -95,11 +95,11 @@ module _ (card : List ℕ) (bytes : Bytes card) (work : List ℕ) where
         chain fourteen (λ _.
         chain refl (λ _.
         chain (outside-not 1 4 (byte card 6)) (λ _.
-        chain sixteen (λ legs.
+        chain sixteen (λ edges.
         chain three (λ _.
         chain nine (λ _.
         chain four (λ _.
-        chain (thirteen (whole legs)) (λ _. gives-none))))))))
+        chain (thirteen (whole edges)) (λ _. gives-none))))))))
       where
         three : ltb 1024 slots ≡ not (leb (length (s .edges)) mostEdges)
         three = rw wide (above-not slots mostEdges)
@@ -116,11 +116,11 @@ module _ (card : List ℕ) (bytes : Bytes card) (work : List ℕ) where
     read-reaches : firstRefusal allChecks ≡ 0 → Reaches slots room (settledChange (headerOf card) wanted m) (cardBook card)
     unfolding cardBook
     read-reaches e =
-        let (_, (_, (k, (legs, (few, (nine, (_, (held, _)))))))) = passing allChecks tt e in
-        let w = whole legs in
+        let (_, (_, (k, (edges, (few, (nine, (_, (held, _)))))))) = passing allChecks tt e in
+        let w = whole edges in
         let (c, d) = test-yields (test-longest (headerOf card .longest)) k in
         let space : n ≤ slots = rw wide at (test-yields (test-le (countOf card) (length (s .edges))) nine) in
-        let is : rising (map (legAt card) (upTo n)) ≡ wanted = rw (w .legs) (w .rises) in
+        let is : rising (map (edgeAt card) (upTo n)) ≡ wanted = rw (w .edges-are) (w .rises) in
         record {
           answer = refl;
           handed = refl;
@@ -129,7 +129,7 @@ module _ (card : List ℕ) (bytes : Bytes card) (work : List ℕ) where
           fine = record {
             bounds = record { vertices-least = omega arith; vertices-most = card-vertices card bytes; longest-least = c; longest-most = d };
             few = rw wide at (test-yields (test-le (length (s .edges)) mostEdges) few);
-            valid = rw (w .legs) (w .valid);
+            valid = rw (w .edges-are) (w .valid);
             fits = rw is (omega (arith, w .count, space));
             held = rw is (rw long at (test-yields (test-le (length (determined (graphOf (headerOf card) wanted))) (length (s .index))) held));
           };

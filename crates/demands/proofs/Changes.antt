@@ -21,9 +21,9 @@ use Rattle.calls.proofs.Checks.{test-ends, Header as Bounds}
 use Rattle.calls.proofs.Settling.{settledChange, settled}
 use Rattle.calls.proofs.Passing.{passing}
 use Rattle.edges.proofs.Memory.{length-insert, member-insert, rising-insert, length-remove, member-remove, rising-remove}
-use Rattle.demands.specs.Ledger.{Book, Fed, laying, lifting, rising, bookEntries, narrow, full, namedNumber, laid, layingNumber, lifted, liftingNumber, turn}
+use Rattle.demands.specs.Ledger.{Book, Fed, insertion, removal, rising, bookEntries, narrow, full, namedNumber, inserted, insertionNumber, removed, removalNumber, turn}
 use Rattle.demands.specs.Station.{Call, insert, remove, memoryOf, change, fedBy}
-use Rattle.demands.proofs.Rising.{Legs, leg-below, rising-rises, rising-in, rising-out, rising-is}
+use Rattle.demands.proofs.Rising.{EdgesOf, edge-below, rising-rises, rising-in, rising-out, rising-is}
 use Rattle.demands.proofs.Numbers.{Gives, gives-none, chain, test-agree, above-not, from-not, either-not, not-not, outside-not}
 use Rattle.demands.proofs.Steps.{recordOf, stationOf, Fine, edge-slots, index-slots, Reaches, Matches, matches}
 
@@ -32,7 +32,7 @@ module _ {slots room : ℕ} {b : Book} (f : Fine slots room b) (from label to : 
   x = edgeNumber from label to
 
   abbrev L : List ℕ
-  L = rising (b .legs)
+  L = rising (b .edges)
 
   abbrev m : Memory
   m = memoryOf (stationOf slots room b) work
@@ -40,28 +40,28 @@ module _ {slots room : ℕ} {b : Book} (f : Fine slots room b) (from label to : 
   small : b .vertices ≤ 256
   small = f .bounds .vertices-most
 
-  listed : Legs (b .vertices) L
-  listed z k = f .valid z (rising-out (b .legs) k)
+  listed : EdgesOf (b .vertices) L
+  listed z k = f .valid z (rising-out (b .edges) k)
 
   stands : standing (filled slots L) ≡ L
   stands = standing-filled slots L (λ z k. omega (arith, edge-least (b .vertices) z (listed z k)))
 
   -- what is known of the named edge where its checks have passed
-  record IsLeg : Type 0 where
+  record IsEdge : Type 0 where
     valid : edge? (b .vertices) x ≡ true
     below : x < 256 * 4096
 
-  is-leg : ends? (b .vertices) from to ≡ true → label? label ≡ true → IsLeg
-  is-leg e k =
+  is-edge : ends? (b .vertices) from to ≡ true → label? label ≡ true → IsEdge
+  is-edge e k =
       let (p, q) = test-yields (test-ends (b .vertices) from to) e in
       let (u, v) = test-yields (test-and (test-le 1 label) (test-le label 8)) k in
       let (i, j, l) = edge-fields from label to (omega (arith, v)) (omega (arith, q, small)) in
       let valid = test-true (test-edge (b .vertices) x) (record { from = rw i p; label-low = rw j u; label-high = rw j v; to = rw l q }) in
-      record { valid = valid; below = leg-below small valid }
+      record { valid = valid; below = edge-below small valid }
 
   -- "1 2 3 4 5 6", then what is left
   named : (fed : Fed) → fed .edgeSlots ≡ slots → fed .indexSlots ≡ room → fed .workSlots ≡ length work → (later : List Check) {later′ : ℕ}
-      → (IsLeg → Gives later later′) → Gives (changeChecks (recordOf b) from label to m ++ later) (namedNumber b from label to fed later′)
+      → (IsEdge → Gives later later′) → Gives (changeChecks (recordOf b) from label to m ++ later) (namedNumber b from label to fed later′)
   unfolding namedNumber
   named fed e i w later g =
       chain (outside-not 1 256 (b .vertices)) (λ _.
@@ -69,11 +69,11 @@ module _ {slots room : ℕ} {b : Book} (f : Fine slots room b) (from label to : 
       chain three (λ _.
       chain four (λ _.
       chain five (λ ends.
-      chain (outside-not 1 8 label) (λ colour. g (is-leg ends colour)))))))
+      chain (outside-not 1 8 label) (λ labelled. g (is-edge ends labelled)))))))
     where
       three : ltb 1024 (fed .edgeSlots) ≡ not (edgeMemory? (b .vertices) (filled slots L))
       three =
-          rw (e, filled-memory (b .vertices) slots L (f .fits) (f .few) (rising-rises (b .legs)) listed)
+          rw (e, filled-memory (b .vertices) slots L (f .fits) (f .few) (rising-rises (b .edges)) listed)
           (test-false (test-lt 1024 slots) (λ h. omega (arith, h, f .few)))
 
       four : narrow fed ≡ not (leb (4096 + length (filled room (bookEntries b))) (length work))
@@ -83,8 +83,8 @@ module _ {slots room : ℕ} {b : Book} (f : Fine slots room b) (from label to : 
       five = rw (from-not from (b .vertices), from-not to (b .vertices)) (either-not (ltb from (b .vertices)) (ltb to (b .vertices)))
 
   -- the named edge stands where the ledger has it
-  known : IsLeg → mem? x (standing (filled slots L)) ≡ mem? x (b .legs)
-  known q = rw stands (test-agree (test-mem x L) (test-map (λ k. rising-in (b .legs) (q .below) k) (λ k. rising-out (b .legs) k) (test-mem x (b .legs))))
+  known : IsEdge → mem? x (standing (filled slots L)) ≡ mem? x (b .edges)
+  known q = rw stands (test-agree (test-mem x L) (test-map (λ k. rising-in (b .edges) (q .below) k) (λ k. rising-out (b .edges) k) (test-mem x (b .edges))))
 
   -- the wanted edges as the ledger has them, and as edge memory gets them
   abbrev grown : List ℕ
@@ -95,64 +95,64 @@ module _ {slots room : ℕ} {b : Book} (f : Fine slots room b) (from label to : 
 
   -- ---- laying
 
-  module _ (q : IsLeg) (new : mem? x (b .legs) ≡ false) where
+  module _ (q : IsEdge) (new : mem? x (b .edges) ≡ false) where
     absent : ¬ (x ∈ L)
-    absent k = test-fails (test-mem x (b .legs)) new (rising-out (b .legs) k)
+    absent k = test-fails (test-mem x (b .edges)) new (rising-out (b .edges) k)
 
     grown-in : {z : ℕ} → z ∈ grown → (z ≡ x) ⊎ (z ∈ L)
     grown-in {z} k = member-insert x L z .0 (rw stands at k)
 
-    grown-legs : Legs (b .vertices) (x ∷ b .legs)
-    grown-legs z k = ⊎-elim (λ e. rw e (q .valid)) (f .valid z) (List·Memᴰ·cases-cons k)
+    grown-edges : EdgesOf (b .vertices) (x ∷ b .edges)
+    grown-edges z k = ⊎-elim (λ e. rw e (q .valid)) (f .valid z) (List·Memᴰ·cases-cons k)
 
-    laid-is : rising (x ∷ b .legs) ≡ grown
-    laid-is =
-        rw stands (rising-is (x ∷ b .legs) small
+    inserted-is : rising (x ∷ b .edges) ≡ grown
+    inserted-is =
+        rw stands (rising-is (x ∷ b .edges) small
         (λ z k. ⊎-elim (λ e. rw e (q .valid)) (listed z) (member-insert x L z .0 k))
-        (rising-insert x L (rising-rises (b .legs)) absent)
-        (λ z k. ⊎-elim (λ e. List·Memᴰ·head e) (λ j. List·Memᴰ·tail (rising-out (b .legs) j)) (member-insert x L z .0 k))
-        (λ z k. member-insert x L z .1 (⊎-elim inl (λ j. inr (rising-in (b .legs) (leg-below small (f .valid z j)) j)) (List·Memᴰ·cases-cons k))))
+        (rising-insert x L (rising-rises (b .edges)) absent)
+        (λ z k. ⊎-elim (λ e. List·Memᴰ·head e) (λ j. List·Memᴰ·tail (rising-out (b .edges) j)) (member-insert x L z .0 k))
+        (λ z k. member-insert x L z .1 (⊎-elim inl (λ j. inr (rising-in (b .edges) (edge-below small (f .valid z j)) j)) (List·Memᴰ·cases-cons k))))
 
-    laid-length : length (rising (x ∷ b .legs)) ≡ suc (length L)
-    laid-length = rw (laid-is, stands) (length-insert x L)
+    inserted-length : length (rising (x ∷ b .edges)) ≡ suc (length L)
+    inserted-length = rw (inserted-is, stands) (length-insert x L)
 
-  fresh : IsLeg → not (mem? x (standing (filled slots L))) ≡ true → mem? x (b .legs) ≡ false
-  fresh q e = test-false (test-mem x (b .legs)) (λ k. test-yields (test-not (test-mem x (b .legs))) (rw (known q) at e) k)
+  fresh : IsEdge → not (mem? x (standing (filled slots L))) ≡ true → mem? x (b .edges) ≡ false
+  fresh q e = test-false (test-mem x (b .edges)) (λ k. test-yields (test-not (test-mem x (b .edges))) (rw (known q) at e) k)
 
-  abbrev layChecks : List Check
-  layChecks =
+  abbrev insertChecks : List Check
+  insertChecks =
       changeChecks (recordOf b) from label to m
       ++ ((7, not (mem? x (standing (m .edges)))) ∷ (9, ltb (length (standing (m .edges))) (length (m .edges))) ∷ [])
 
-  lay-gives : Gives (layChecks ++ ((13, fits? (recordOf b) grown m) ∷ []))
-      (layingNumber b from label to (fedBy slots room (insert from label to work)))
-  unfolding layingNumber laid
-  lay-gives =
+  insert-gives : Gives (insertChecks ++ ((13, fits? (recordOf b) grown m) ∷ []))
+      (insertionNumber b from label to (fedBy slots room (insert from label to work)))
+  unfolding insertionNumber inserted
+  insert-gives =
       named (fedBy slots room (insert from label to work)) refl refl refl _ (λ q.
       chain (seven q) (λ new.
       let gone = fresh q new in
       chain (nine q gone) (λ _.
       chain (thirteen q gone) (λ _. gives-none))))
     where
-      seven : IsLeg → mem? x (b .legs) ≡ not (not (mem? x (standing (filled slots L))))
-      seven q = rw (known q) (not-not (mem? x (b .legs)))
+      seven : IsEdge → mem? x (b .edges) ≡ not (not (mem? x (standing (filled slots L))))
+      seven q = rw (known q) (not-not (mem? x (b .edges)))
 
-      nine : (q : IsLeg) → mem? x (b .legs) ≡ false → ltb slots (length (rising (x ∷ b .legs))) ≡ not (ltb (length (standing (filled slots L))) (length (filled slots L)))
+      nine : (q : IsEdge) → mem? x (b .edges) ≡ false → ltb slots (length (rising (x ∷ b .edges))) ≡ not (ltb (length (standing (filled slots L))) (length (filled slots L)))
       nine q e =
-          rw (laid-length q e, stands, edge-slots f)
+          rw (inserted-length q e, stands, edge-slots f)
           (test-agree (test-lt slots (suc (length L))) (test-map (λ h. omega (arith, h)) (λ h k. omega (arith, h, k)) (test-not (test-lt (length L) slots))))
 
-      thirteen : (q : IsLeg) → mem? x (b .legs) ≡ false → full (laid b x) (fedBy slots room (insert from label to work)) ≡ not (fits? (recordOf b) grown m)
-      thirteen q e = rw (laid-is q e, index-slots f) (above-not (length (determined (graphOf (recordOf b) grown))) room)
+      thirteen : (q : IsEdge) → mem? x (b .edges) ≡ false → full (inserted b x) (fedBy slots room (insert from label to work)) ≡ not (fits? (recordOf b) grown m)
+      thirteen q e = rw (inserted-is q e, index-slots f) (above-not (length (determined (graphOf (recordOf b) grown))) room)
 
-  lay-reaches : firstRefusal (layChecks ++ ((13, fits? (recordOf b) grown m) ∷ [])) ≡ 0 → Reaches slots room (settledChange (recordOf b) grown m) (laid b x)
-  unfolding laid
-  lay-reaches e =
-      let p = passing (layChecks ++ ((13, fits? (recordOf b) grown m) ∷ [])) tt e .1 .1 .1 .1 in
-      let (ends, (colour, (new, (nine, (held, _))))) = p in
-      let q = is-leg ends colour in
+  insert-reaches : firstRefusal (insertChecks ++ ((13, fits? (recordOf b) grown m) ∷ [])) ≡ 0 → Reaches slots room (settledChange (recordOf b) grown m) (inserted b x)
+  unfolding inserted
+  insert-reaches e =
+      let p = passing (insertChecks ++ ((13, fits? (recordOf b) grown m) ∷ [])) tt e .1 .1 .1 .1 in
+      let (ends, (labelled, (new, (nine, (held, _))))) = p in
+      let q = is-edge ends labelled in
       let gone = fresh q new in
-      let is = laid-is q gone in
+      let is = inserted-is q gone in
       let space : length L < slots = rw (stands, edge-slots f) at (test-yields (test-lt (length (standing (filled slots L))) (length (filled slots L))) nine) in
       record {
         answer = refl;
@@ -162,18 +162,18 @@ module _ {slots room : ℕ} {b : Book} (f : Fine slots room b) (from label to : 
         fine = record {
           bounds = f .bounds;
           few = f .few;
-          valid = grown-legs q gone;
-          fits = omega (arith, laid-length q gone, space);
+          valid = grown-edges q gone;
+          fits = omega (arith, inserted-length q gone, space);
           held = rw is (rw (index-slots f) at (test-yields (test-le (length (determined (graphOf (recordOf b) grown))) (length (filled room (bookEntries b)))) held));
         };
       }
 
-  pub lay-matches : Matches slots room (stationOf slots room b) (insertCall (recordOf b) from label to m) (turn b (fedBy slots room (insert from label to work)))
+  pub insert-matches : Matches slots room (stationOf slots room b) (insertCall (recordOf b) from label to m) (turn b (fedBy slots room (insert from label to work)))
   unfolding insertCall insertRefusal turn
-  lay-matches =
-      let r = settled (back (recordOf b)) (recordOf b) grown m layChecks tt in
-      rw (sym (lay-gives .is))
-      (matches b (laid b x) (firstRefusal (layChecks ++ ((13, fits? (recordOf b) grown m) ∷ []))) (back (recordOf b)) r f lay-reaches)
+  insert-matches =
+      let r = settled (back (recordOf b)) (recordOf b) grown m insertChecks tt in
+      rw (sym (insert-gives .is))
+      (matches b (inserted b x) (firstRefusal (insertChecks ++ ((13, fits? (recordOf b) grown m) ∷ []))) (back (recordOf b)) r f insert-reaches)
 
   -- ---- lifting
 
@@ -183,56 +183,56 @@ module _ {slots room : ℕ} {b : Book} (f : Fine slots room b) (from label to : 
   test-others : (z : ℕ) → Tests (others z) (z ≢ x)
   test-others z = test-not (test-eq z x)
 
-  lifted-is : rising (keep others (b .legs)) ≡ less
-  lifted-is =
-      rw stands (rising-is (keep others (b .legs)) small
-      (λ z k. listed z (member-remove x L (rising-rises (b .legs)) z .0 k .0))
-      (rising-remove x L (rising-rises (b .legs)))
-      (λ z k. let (a, d) = member-remove x L (rising-rises (b .legs)) z .0 k in keep-in others (rising-out (b .legs) a) ((test-others z) .passes d))
-      (λ z k. let (a, d) = keep-out others (b .legs) k in
-      member-remove x L (rising-rises (b .legs)) z .1 (rising-in (b .legs) (leg-below small (f .valid z a)) a, (test-others z) .yields d)))
+  removed-is : rising (keep others (b .edges)) ≡ less
+  removed-is =
+      rw stands (rising-is (keep others (b .edges)) small
+      (λ z k. listed z (member-remove x L (rising-rises (b .edges)) z .0 k .0))
+      (rising-remove x L (rising-rises (b .edges)))
+      (λ z k. let (a, d) = member-remove x L (rising-rises (b .edges)) z .0 k in keep-in others (rising-out (b .edges) a) ((test-others z) .passes d))
+      (λ z k. let (a, d) = keep-out others (b .edges) k in
+      member-remove x L (rising-rises (b .edges)) z .1 (rising-in (b .edges) (edge-below small (f .valid z a)) a, (test-others z) .yields d)))
 
-  abbrev liftChecks : List Check
-  liftChecks = changeChecks (recordOf b) from label to m ++ ((8, mem? x (standing (m .edges))) ∷ [])
+  abbrev removeChecks : List Check
+  removeChecks = changeChecks (recordOf b) from label to m ++ ((8, mem? x (standing (m .edges))) ∷ [])
 
-  lift-gives : Gives (liftChecks ++ ((13, fits? (recordOf b) less m) ∷ [])) (liftingNumber b from label to (fedBy slots room (remove from label to work)))
-  unfolding liftingNumber lifted
-  lift-gives =
+  remove-gives : Gives (removeChecks ++ ((13, fits? (recordOf b) less m) ∷ [])) (removalNumber b from label to (fedBy slots room (remove from label to work)))
+  unfolding removalNumber removed
+  remove-gives =
       named (fedBy slots room (remove from label to work)) refl refl refl _ (λ q.
       chain (eight q) (λ _.
       chain thirteen (λ _. gives-none)))
     where
-      eight : IsLeg → not (mem? x (b .legs)) ≡ not (mem? x (standing (filled slots L)))
+      eight : IsEdge → not (mem? x (b .edges)) ≡ not (mem? x (standing (filled slots L)))
       eight q = rw (known q) refl
 
-      thirteen : full (lifted b x) (fedBy slots room (remove from label to work)) ≡ not (fits? (recordOf b) less m)
-      thirteen = rw (lifted-is, index-slots f) (above-not (length (determined (graphOf (recordOf b) less))) room)
+      thirteen : full (removed b x) (fedBy slots room (remove from label to work)) ≡ not (fits? (recordOf b) less m)
+      thirteen = rw (removed-is, index-slots f) (above-not (length (determined (graphOf (recordOf b) less))) room)
 
-  lift-reaches : firstRefusal (liftChecks ++ ((13, fits? (recordOf b) less m) ∷ [])) ≡ 0 → Reaches slots room (settledChange (recordOf b) less m) (lifted b x)
-  unfolding lifted
-  lift-reaches e =
-      let p = passing (liftChecks ++ ((13, fits? (recordOf b) less m) ∷ [])) tt e .1 .1 .1 .1 in
-      let (ends, (colour, (there, (held, _)))) = p in
-      let q = is-leg ends colour in
+  remove-reaches : firstRefusal (removeChecks ++ ((13, fits? (recordOf b) less m) ∷ [])) ≡ 0 → Reaches slots room (settledChange (recordOf b) less m) (removed b x)
+  unfolding removed
+  remove-reaches e =
+      let p = passing (removeChecks ++ ((13, fits? (recordOf b) less m) ∷ [])) tt e .1 .1 .1 .1 in
+      let (ends, (labelled, (there, (held, _)))) = p in
+      let q = is-edge ends labelled in
       let here : x ∈ L = rw stands at (test-yields (test-mem x (standing (filled slots L))) there) in
-      let size : length (rising (keep others (b .legs))) < length L = rw (lifted-is, stands) (omega (arith, length-remove x L here)) in
+      let size : length (rising (keep others (b .edges))) < length L = rw (removed-is, stands) (omega (arith, length-remove x L here)) in
       record {
         answer = refl;
         handed = refl;
-        edges = rw (edge-slots f, lifted-is) refl;
-        index = rw (index-slots f, lifted-is) refl;
+        edges = rw (edge-slots f, removed-is) refl;
+        index = rw (index-slots f, removed-is) refl;
         fine = record {
           bounds = f .bounds;
           few = f .few;
-          valid = λ z k. f .valid z (keep-out others (b .legs) k .0);
+          valid = λ z k. f .valid z (keep-out others (b .edges) k .0);
           fits = omega (arith, size, f .fits);
-          held = rw lifted-is (rw (index-slots f) at (test-yields (test-le (length (determined (graphOf (recordOf b) less))) (length (filled room (bookEntries b)))) held));
+          held = rw removed-is (rw (index-slots f) at (test-yields (test-le (length (determined (graphOf (recordOf b) less))) (length (filled room (bookEntries b)))) held));
         };
       }
 
-  pub lift-matches : Matches slots room (stationOf slots room b) (removeCall (recordOf b) from label to m) (turn b (fedBy slots room (remove from label to work)))
+  pub remove-matches : Matches slots room (stationOf slots room b) (removeCall (recordOf b) from label to m) (turn b (fedBy slots room (remove from label to work)))
   unfolding removeCall removeRefusal turn
-  lift-matches =
-      let r = settled (back (recordOf b)) (recordOf b) less m liftChecks tt in
-      rw (sym (lift-gives .is))
-      (matches b (lifted b x) (firstRefusal (liftChecks ++ ((13, fits? (recordOf b) less m) ∷ []))) (back (recordOf b)) r f lift-reaches)
+  remove-matches =
+      let r = settled (back (recordOf b)) (recordOf b) less m removeChecks tt in
+      rw (sym (remove-gives .is))
+      (matches b (removed b x) (firstRefusal (removeChecks ++ ((13, fits? (recordOf b) less m) ∷ []))) (back (recordOf b)) r f remove-reaches)

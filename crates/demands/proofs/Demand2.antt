@@ -28,7 +28,7 @@ use Rattle.calls.proofs.Query.{query-accepted}
 use Rattle.calls.proofs.Change.{pass-first}
 use Rattle.calls.proofs.Settling.{settledChange, Result, settled}
 use Rattle.calls.proofs.Passing.{passing}
-use Rattle.calls.proofs.Card.{card-is, LegsGood, legs-good, CardGood, card-good, card-vertices, Cardable, CardSays, card-says, card-again}
+use Rattle.calls.proofs.Card.{card-is, TriplesGood, triples-good, CardGood, card-good, card-vertices, Cardable, CardSays, card-says, card-again}
 use Rattle.edges.specs.Memory.{scanOf}
 use Rattle.edges.proofs.Memory.{Scans, scans}
 use Rattle.demands.specs.Ledger.{Book, bookEntries, ledger}
@@ -148,7 +148,7 @@ unfolding readCall readRefusal
 read-accepted card m {h} {edges} says room =
     let q : firstRefusal (cardChecks card ++ later) ≡ 0 = pass-first (cardChecks card) later tt (unfold cardRefusal in says .passes) ∙ rest in
     settled no-record (headerOf card) (edgesOf (drop headBytes card)) m (cardChecks card ++ more) tt .accepted q
-    ∙ ap₂ (λ (k : Header) (l : List ℕ). settledChange k l m) (says .header) (says .legs)
+    ∙ ap₂ (λ (k : Header) (l : List ℕ). settledChange k l m) (says .header) (says .edges-are)
   where
     more : List Check
     more = (3, leb (length (m .edges)) mostEdges) ∷ (9, leb (countOf card) (length (m .edges))) ∷ (4, buildRoom? m) ∷ []
@@ -157,7 +157,7 @@ read-accepted card m {h} {edges} says room =
     later = more ++ ((13, fits? (headerOf card) (edgesOf (drop headBytes card)) m) ∷ [])
 
     thirteen : fits? (headerOf card) (edgesOf (drop headBytes card)) m ≡ true
-    thirteen = ap₂ (λ (k : Header) (l : List ℕ). fits? k l m) (says .header) (says .legs) ∙ (test-true (test-le (length (determined (graphOf h edges))) (length (m .index))) (room .index-slots))
+    thirteen = ap₂ (λ (k : Header) (l : List ℕ). fits? k l m) (says .header) (says .edges-are) ∙ (test-true (test-le (length (determined (graphOf h edges))) (length (m .index))) (room .index-slots))
 
     nine : leb (countOf card) (length (m .edges)) ≡ true
     nine = rw (says .count) (test-true (test-le (length edges) (length (m .edges))) (room .edge-slots))
@@ -213,7 +213,7 @@ read-said card m bytes e = go (firstRefusal (checks ++ last)) refl
         let (a, (b, (c, (d, (few, (nine, _)))))) = passing (checks ++ last) tt q in
         let own : cardRefusal card ≡ 0 = card-is card (pass a (pass b (pass c (pass d none)))) in
         let g = card-good card own in
-        let legs = legs-good (headerOf card .vertices) 0 (drop headBytes card) (g .legs) (card-vertices card bytes) in
+        let triples = triples-good (headerOf card .vertices) 0 (drop headBytes card) (g .triples) (card-vertices card bytes) in
         record {
           passes = own;
           is = result .accepted q;
@@ -225,8 +225,8 @@ read-said card m bytes e = go (firstRefusal (checks ++ last)) refl
           };
           few = test-yields (test-le (length (m .edges)) mostEdges) few;
           fits = omega (arith, g .count, test-yields (test-le (countOf card) (length (m .edges))) nine);
-          rising = legs .rising;
-          valid = λ x k. legs .each x k .1;
+          rising = triples .rising;
+          valid = λ x k. triples .each x k .1;
         }
 
 writes-back : (card output : List ℕ) (m : Memory) → Bytes card → Said card m → length card ≤ length output

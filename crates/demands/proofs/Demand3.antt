@@ -24,7 +24,7 @@ use Rattle.demands.specs.Station.{Call, opens, insert, remove, read, Sta
 use Rattle.demands.specs.Demand3.{blank, Begins, by-opening, by-card, standingGraph, Missed, Demand3, Demand3Holds}
 use Rattle.demands.proofs.Index.{struck-answer}
 use Rattle.demands.proofs.Steps.{stationOf, Fine, Matches}
-use Rattle.demands.proofs.Changes.{lay-matches, lift-matches}
+use Rattle.demands.proofs.Changes.{insert-matches, remove-matches}
 use Rattle.demands.proofs.Openings.{open-begins, open-matches}
 use Rattle.demands.proofs.Cards.{read-begins, read-matches}
 
@@ -33,8 +33,8 @@ use Rattle.demands.proofs.Cards.{read-begins, read-matches}
 module _ (slots room : ℕ) where
   step : {b : Book} → Fine slots room b → (c : Call) → Matches slots room (stationOf slots room b) (change (stationOf slots room b) c) (turn b (fedBy slots room c))
   step f (opens h) = open-matches h f
-  step f (insert from label to work) = lay-matches f from label to work
-  step f (remove from label to work) = lift-matches f from label to work
+  step f (insert from label to work) = insert-matches f from label to work
+  step f (remove from label to work) = remove-matches f from label to work
   step f (read card bytes work) = read-matches card bytes work f
 
   -- the station's run and the ledger's account

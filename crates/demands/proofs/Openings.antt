@@ -58,7 +58,7 @@ rising-none = empty-is (rising []) (λ x m. List·Memᴰ·not-nil (rising-out []
 
 module _ (h : Header) where
   abbrev fresh : Book
-  fresh = record { vertices = h .vertices; longest = h .longest; legs = [] }
+  fresh = record { vertices = h .vertices; longest = h .longest; edges = [] }
 
   abbrev done : Station → Change
   done s =

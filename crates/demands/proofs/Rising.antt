@@ -1,4 +1,4 @@
--- The standing legs as a rising list.
+-- The standing edges as a rising list.
 use mathlib.Core.Path.{_≡_}
 use mathlib.Core.Bool.{true}
 use mathlib.Core.List.{List}
@@ -12,29 +12,29 @@ use Rattle.model.proofs.Edges.{test-edge}
 use Rattle.model.proofs.Counting.{rising-same}
 use Rattle.demands.specs.Ledger.{rising}
 
--- legs of a layout with so many places
-abbrev pub Legs : ℕ → List ℕ → Type 0
-Legs vertices legs = (x : ℕ) → x ∈ legs → edge? vertices x ≡ true
+-- edges of a layout with so many vertices
+abbrev pub EdgesOf : ℕ → List ℕ → Type 0
+EdgesOf vertices edges = (x : ℕ) → x ∈ edges → edge? vertices x ≡ true
 
--- a leg's number is below 256 × 4,096
-pub leg-below : {vertices x : ℕ} → vertices ≤ 256 → edge? vertices x ≡ true → x < 256 * 4096
-leg-below {vertices} {x} h e = omega (arith, h, (test-yields (test-edge vertices x) e) .from)
+-- an edge's number is below 256 × 4,096
+pub edge-below : {vertices x : ℕ} → vertices ≤ 256 → edge? vertices x ≡ true → x < 256 * 4096
+edge-below {vertices} {x} h e = omega (arith, h, (test-yields (test-edge vertices x) e) .from)
 
-module _ (legs : List ℕ) where
-  pub rising-rises : Rising (rising legs)
+module _ (edges : List ℕ) where
+  pub rising-rises : Rising (rising edges)
   unfolding rising
-  rising-rises = sorted-keep (λ x. mem? x legs) (rising-from 0 (256 * 4096))
+  rising-rises = sorted-keep (λ x. mem? x edges) (rising-from 0 (256 * 4096))
 
-  pub rising-out : {x : ℕ} → x ∈ rising legs → x ∈ legs
+  pub rising-out : {x : ℕ} → x ∈ rising edges → x ∈ edges
   unfolding rising
-  rising-out {x} m = (test-mem x legs) .yields (keep-out (λ x. mem? x legs) (upTo (256 * 4096)) m .1)
+  rising-out {x} m = (test-mem x edges) .yields (keep-out (λ x. mem? x edges) (upTo (256 * 4096)) m .1)
 
-  pub rising-in : {x : ℕ} → x < 256 * 4096 → x ∈ legs → x ∈ rising legs
+  pub rising-in : {x : ℕ} → x < 256 * 4096 → x ∈ edges → x ∈ rising edges
   unfolding rising
-  rising-in {x} h m = keep-in (λ x. mem? x legs) (up-to h) ((test-mem x legs) .passes m)
+  rising-in {x} h m = keep-in (λ x. mem? x edges) (up-to h) ((test-mem x edges) .passes m)
 
--- a rising list with the same legs is theirs
-pub rising-is : {vertices : ℕ} {l : List ℕ} (legs : List ℕ) → vertices ≤ 256 → Legs vertices l → Rising l → ((x : ℕ) → x ∈ l → x ∈ legs) → ((x : ℕ) → x ∈ legs → x ∈ l)
-    → rising legs ≡ l
-rising-is legs h valid rises f g =
-    rising-same (rising-rises legs) rises (λ x m. g x (rising-out legs m)) (λ x m. rising-in legs (leg-below h (valid x m)) (f x m))
+-- a rising list with the same edges is theirs
+pub rising-is : {vertices : ℕ} {l : List ℕ} (edges : List ℕ) → vertices ≤ 256 → EdgesOf vertices l → Rising l → ((x : ℕ) → x ∈ l → x ∈ edges) → ((x : ℕ) → x ∈ edges → x ∈ l)
+    → rising edges ≡ l
+rising-is edges h valid rises f g =
+    rising-same (rising-rises edges) rises (λ x m. g x (rising-out edges m)) (λ x m. rising-in edges (edge-below h (valid x m)) (f x m))

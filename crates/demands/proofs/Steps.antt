@@ -13,26 +13,26 @@ use Rattle.calls.proofs.Checks.{Header as Bounds}
 use Rattle.calls.proofs.Settling.{Result}
 use Rattle.demands.specs.Ledger.{Book, rising, bookEntries, Shown, Turn, turnWith}
 use Rattle.demands.specs.Station.{Station, memoryOf, after, shownOf, replyOf}
-use Rattle.demands.proofs.Rising.{Legs}
+use Rattle.demands.proofs.Rising.{EdgesOf}
 
 abbrev pub recordOf : Book → Header
 recordOf b = record { vertices = b .vertices; longest = b .longest }
 
 -- the station that holds what the ledger does
 abbrev pub stationOf : (slots room : ℕ) → Book → Station
-stationOf slots room b = record { header = recordOf b; edges = filled slots (rising (b .legs)); index = filled room (bookEntries b) }
+stationOf slots room b = record { header = recordOf b; edges = filled slots (rising (b .edges)); index = filled room (bookEntries b) }
 
 -- what the ledger holds fits there
 pub record Fine (slots room : ℕ) (b : Book) : Type 0 where
   pub bounds : Bounds (b .vertices) (b .longest)
   pub few : slots ≤ mostEdges
-  pub valid : Legs (b .vertices) (b .legs)
-  pub fits : length (rising (b .legs)) ≤ slots
+  pub valid : EdgesOf (b .vertices) (b .edges)
+  pub fits : length (rising (b .edges)) ≤ slots
   pub held : length (bookEntries b) ≤ room
 
 module _ {slots room : ℕ} {b : Book} (f : Fine slots room b) where
-  pub edge-slots : length (filled slots (rising (b .legs))) ≡ slots
-  edge-slots = length-filled slots (rising (b .legs)) (f .fits)
+  pub edge-slots : length (filled slots (rising (b .edges))) ≡ slots
+  edge-slots = length-filled slots (rising (b .edges)) (f .fits)
 
   pub index-slots : length (filled room (bookEntries b)) ≡ room
   index-slots = length-filled room (bookEntries b) (f .held)
@@ -41,7 +41,7 @@ module _ {slots room : ℕ} {b : Book} (f : Fine slots room b) where
 pub record Reaches (slots room : ℕ) (done : Change) (b : Book) : Type 0 where
   pub answer : done .answer ≡ 0
   pub handed : done .handed ≡ back (recordOf b)
-  pub edges : done .memory .edges ≡ filled slots (rising (b .legs))
+  pub edges : done .memory .edges ≡ filled slots (rising (b .edges))
   pub index : done .memory .index ≡ filled room (bookEntries b)
   pub fine : Fine slots room b
 

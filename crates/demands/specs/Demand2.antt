@@ -18,7 +18,7 @@ use Rattle.demands.specs.Ledger.{Book, numberFor, ledger}
 use Rattle.demands.specs.Station.{Call, Station, run, givenBy, fedBy, fedAll}
 use Rattle.demands.specs.Demand3.{blank, Begins, standingGraph}
 
--- (a) questions put with a record and an index memory, to the standing legs of the ledger
+-- (a) queries (questions) put with a record and an index memory, to the standing edges of the ledger
 pub record Right (h : Header) (index : List ℕ) (b : Book) : Type 0 where
   -- yes exactly when some walk spells the pattern's minimum repeat one or more whole times, else no
   pub replies : (start destination : ℕ) (pattern : List ℕ) → start < b .vertices → destination < b .vertices → Keyed (b .longest) pattern

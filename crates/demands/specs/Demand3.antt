@@ -1,4 +1,4 @@
--- Demand 3: for every list of openings, lays, lifts and card readings, refused ones included, each reply and every slot of leg and index memory
+-- Demand 3: for every list of openings, lays, lifts and card readings, refused ones included, each reply and every slot of edge (leg) and index memory
 -- is what the ledger gives, and no entry of the index can be spared. One claim about the list.
 use mathlib.Core.Path.{_≡_}
 use mathlib.Core.Bool.{Bool}
@@ -13,21 +13,21 @@ use Rattle.model.specs.Walks.{Runs}
 use Rattle.model.specs.Query.{No}
 use Rattle.calls.specs.Change.{Header}
 use Rattle.calls.specs.Query.{queryCall}
-use Rattle.demands.specs.Ledger.{Book, rising, bookEntries, opening, laying, lifting, card, Given, numberFor, Account, ledger}
+use Rattle.demands.specs.Ledger.{Book, rising, bookEntries, opening, insertion, removal, card, Given, numberFor, Account, ledger}
 use Rattle.demands.specs.Station.{Call, Station, run, givenBy, fedBy, fedAll}
 
 -- a ledger that holds nothing yet
 abbrev pub blank : Book
-blank = record { vertices = 0; longest = 0; legs = [] }
+blank = record { vertices = 0; longest = 0; edges = [] }
 
 -- an opening or a card reading
 pub data Begins : Given → Type 0 where
   by-opening : {vertices longest : ℕ} → Begins (opening vertices longest)
   by-card : {bytes : List ℕ} → Begins (card bytes)
 
--- the standing legs as a graph
+-- the standing edges as a graph
 abbrev pub standingGraph : Book → Graph
-standingGraph b = record { vertices = b .vertices; longest = b .longest; edges = rising (b .legs) }
+standingGraph b = record { vertices = b .vertices; longest = b .longest; edges = rising (b .edges) }
 
 -- "It is rightly a yes if its pattern has at most k colours, is its own minimum repeat, and is run by a walk of standing legs from start to
 -- destination." Put with that memory and the record, it is answered no
@@ -44,13 +44,13 @@ pub record Demand3 (s : Station) (calls : List Call) : Type 0 where
   pub account : Account
   pub is : account ≡ ledger blank (fedAll s calls)
   pub replies : run s calls .replies ≡ account .replies
-  pub edges : run s calls .station .edges ≡ filled (length (s .edges)) (rising (account .book .legs))
+  pub edges : run s calls .station .edges ≡ filled (length (s .edges)) (rising (account .book .edges))
   pub index : run s calls .station .index ≡ filled (length (s .index)) (bookEntries (account .book))
   -- "Where entries are struck out, the others close up in order and zeros follow": f says which are kept, e is one that is not
   pub needed : (f : ℕ → Bool) (e : ℕ) → e ∈ bookEntries (account .book) → ¬ T (f e)
       → Missed (run s calls .station .header) (account .book) (filled (length (s .index)) (keep f (bookEntries (account .book))))
 
--- for every list that begins with an opening or card reading that the ledger accepts, whatever leg, index and work memory hold
+-- for every list that begins with an opening or card reading that the ledger accepts, whatever edge, index and work memory hold
 abbrev pub Demand3Holds : Type 0
 Demand3Holds =
     (s : Station) (first : Call) (more : List Call) → Begins (givenBy first)

@@ -12,7 +12,7 @@ use Rattle.model.specs.Entries.{determined}
 -- "It is fed what each call is given: the record of an opening, the leg of a lay or lift, the bytes of a card"
 pub data Given : Type 0 where
   opening : (vertices longest : ℕ) → Given
-  laying lifting : (from label to : ℕ) → Given
+  insertion removal : (from label to : ℕ) → Given
   card : (bytes : List ℕ) → Given
 
 -- "and how many slots are lent as leg, index and work memory"
@@ -26,15 +26,15 @@ pub record Fed : Type 0 where
 pub record Book : Type 0 where
   pub vertices : ℕ
   pub longest : ℕ
-  pub legs : List ℕ
+  pub edges : List ℕ
 
--- "the standing legs, rising": of all numbers that a leg can have, those in the set
+-- "the standing legs, rising": of all numbers that an edge can have, those in the set
 unfoldable pub rising : List ℕ → List ℕ
-rising legs = keep (λ x. mem? x legs) (upTo (256 * 4096))
+rising edges = keep (λ x. mem? x edges) (upTo (256 * 4096))
 
 -- "the entries that they determine with the ledger's places and k"
 abbrev pub bookEntries : Book → List ℕ
-bookEntries b = determined (record { vertices = b .vertices; longest = b .longest; edges = rising (b .legs) })
+bookEntries b = determined (record { vertices = b .vertices; longest = b .longest; edges = rising (b .edges) })
 
 -- ---- refusals: the table's conditions, in each call's order
 
@@ -58,8 +58,8 @@ full wanted f = ltb (f .indexSlots) (length (bookEntries wanted))
 unfoldable pub openingNumber : (vertices longest : ℕ) → Fed → ℕ
 openingNumber vertices longest f = when (outside 1 256 vertices) 1 (when (outside 1 4 longest) 2 (when (ltb 1024 (f .edgeSlots)) 3 0))
 
--- "1 2 3 4 5 6" of a named leg, then what is left. "For a lay or lift the record and leg memory checked are the ledger's own places, k and
--- legs": these are legs of the layout, so of 3 only the slots are left
+-- "1 2 3 4 5 6" of a named edge, then what is left. "For a lay or lift the record and leg memory checked are the ledger's own places, k and
+-- legs": these are edges of the layout, so of 3 only the slots are left
 unfoldable pub namedNumber : Book → (from label to : ℕ) → Fed → ℕ → ℕ
 namedNumber b from label to f later =
     when (outside 1 256 (b .vertices)) 1
@@ -69,27 +69,27 @@ namedNumber b from label to f later =
     (when (leb (b .vertices) from || leb (b .vertices) to) 5
     (when (outside 1 8 label) 6 later)))))
 
--- the ledger with one leg more, and with one leg less
-unfoldable pub laid : Book → ℕ → Book
-laid b x = record { vertices = b .vertices; longest = b .longest; legs = x ∷ b .legs }
+-- the ledger with one edge (leg) more, as a lay leaves it, and with one less, as a lift does
+unfoldable pub inserted : Book → ℕ → Book
+inserted b x = record { vertices = b .vertices; longest = b .longest; edges = x ∷ b .edges }
 
-unfoldable pub lifted : Book → ℕ → Book
-lifted b x = record { vertices = b .vertices; longest = b .longest; legs = keep (λ z. not (eqb z x)) (b .legs) }
+unfoldable pub removed : Book → ℕ → Book
+removed b x = record { vertices = b .vertices; longest = b .longest; edges = keep (λ z. not (eqb z x)) (b .edges) }
 
 -- "7 9 13"
-unfoldable pub layingNumber : Book → (from label to : ℕ) → Fed → ℕ
-layingNumber b from label to f =
+unfoldable pub insertionNumber : Book → (from label to : ℕ) → Fed → ℕ
+insertionNumber b from label to f =
     let x = edgeNumber from label to in
     namedNumber b from label to f
-    (when (mem? x (b .legs)) 7
-    (when (ltb (f .edgeSlots) (length (rising (laid b x .legs)))) 9
-    (when (full (laid b x) f) 13 0)))
+    (when (mem? x (b .edges)) 7
+    (when (ltb (f .edgeSlots) (length (rising (inserted b x .edges)))) 9
+    (when (full (inserted b x) f) 13 0)))
 
 -- "8 13"
-unfoldable pub liftingNumber : Book → (from label to : ℕ) → Fed → ℕ
-liftingNumber b from label to f =
+unfoldable pub removalNumber : Book → (from label to : ℕ) → Fed → ℕ
+removalNumber b from label to f =
     let x = edgeNumber from label to in
-    namedNumber b from label to f (when (not (mem? x (b .legs))) 8 (when (full (lifted b x) f) 13 0))
+    namedNumber b from label to f (when (not (mem? x (b .edges))) 8 (when (full (removed b x) f) 13 0))
 
 -- ---- the card, byte by byte
 
@@ -97,23 +97,23 @@ module _ (bytes : List ℕ) where
   abbrev pub byte : ℕ → ℕ
   byte i = getD bytes i 0
 
-  abbrev pub legCount : ℕ
-  legCount = byte 7 * 256 + byte 8
+  abbrev pub edgeCount : ℕ
+  edgeCount = byte 7 * 256 + byte 8
 
-  -- the bytes of leg i start at 9 + 3 i
-  abbrev pub legAt : ℕ → ℕ
-  legAt i = edgeNumber (byte (9 + 3 * i)) (byte (10 + 3 * i)) (byte (11 + 3 * i))
+  -- the bytes of edge i start at 9 + 3 i
+  abbrev pub edgeAt : ℕ → ℕ
+  edgeAt i = edgeNumber (byte (9 + 3 * i)) (byte (10 + 3 * i)) (byte (11 + 3 * i))
 
-  -- leg i is none of a layout with the card's places
+  -- edge i is none of a layout with the card's vertices
   abbrev pub stray : ℕ → Bool
   stray i = (leb (byte 5 + 1) (byte (9 + 3 * i)) || leb (byte 5 + 1) (byte (11 + 3 * i))) || outside 1 8 (byte (10 + 3 * i))
 
-  -- leg i + 1 does not rise
+  -- edge i + 1 does not rise
   abbrev pub falls : ℕ → Bool
-  falls i = leb (legAt (i + 1)) (legAt i)
+  falls i = leb (edgeAt (i + 1)) (edgeAt i)
 
   unfoldable pub cardBook : Book
-  cardBook = record { vertices = byte 5 + 1; longest = byte 6; legs = map legAt (upTo legCount) }
+  cardBook = record { vertices = byte 5 + 1; longest = byte 6; edges = map edgeAt (upTo edgeCount) }
 
   -- "Read card 14 15 2 16 3 9 4 13"
   unfoldable pub cardNumber : Fed → ℕ
@@ -121,9 +121,9 @@ module _ (bytes : List ℕ) where
       when (ltb (length bytes) 9 || (not (eqb (byte 0) 80) || (not (eqb (byte 1) 82) || not (eqb (byte 2) 67)))) 14
       (when (not (eqb (byte 3 * 256 + byte 4) 1)) 15
       (when (outside 1 4 (byte 6)) 2
-      (when (not (eqb (length bytes) (9 + 3 * legCount)) || (any? stray (upTo legCount) || any? falls (upTo (legCount - 1)))) 16
+      (when (not (eqb (length bytes) (9 + 3 * edgeCount)) || (any? stray (upTo edgeCount) || any? falls (upTo (edgeCount - 1)))) 16
       (when (ltb 1024 (f .edgeSlots)) 3
-      (when (ltb (f .edgeSlots) legCount) 9
+      (when (ltb (f .edgeSlots) edgeCount) 9
       (when (narrow f) 4
       (when (full cardBook f) 13 0)))))))
 
@@ -132,16 +132,16 @@ module _ (bytes : List ℕ) where
 -- "A call is refused with the first number that applies in its order above, and is accepted otherwise": 0
 abbrev pub numberFor : Book → Given → Fed → ℕ
 numberFor b (opening vertices longest) f = openingNumber vertices longest f
-numberFor b (laying from label to) f = layingNumber b from label to f
-numberFor b (lifting from label to) f = liftingNumber b from label to f
+numberFor b (insertion from label to) f = insertionNumber b from label to f
+numberFor b (removal from label to) f = removalNumber b from label to f
 numberFor b (card bytes) f = cardNumber bytes f
 
 -- "An accepted opening sets its record's places and k, with no legs. An accepted card reading sets the card's places, k and legs. An accepted
 -- lay adds its leg, an accepted lift takes its leg out; places and k stay."
 abbrev pub wantedBy : Book → Given → Book
-wantedBy b (opening vertices longest) = record { vertices = vertices; longest = longest; legs = [] }
-wantedBy b (laying from label to) = laid b (edgeNumber from label to)
-wantedBy b (lifting from label to) = lifted b (edgeNumber from label to)
+wantedBy b (opening vertices longest) = record { vertices = vertices; longest = longest; edges = [] }
+wantedBy b (insertion from label to) = inserted b (edgeNumber from label to)
+wantedBy b (removal from label to) = removed b (edgeNumber from label to)
 wantedBy b (card bytes) = cardBook bytes
 
 -- the record in a reply, or none
@@ -158,8 +158,8 @@ pub record Reply : Type 0 where
 -- none"
 abbrev pub refusedShown : Book → Given → Shown
 refusedShown b (opening vertices longest) = shows vertices longest
-refusedShown b (laying from label to) = shows (b .vertices) (b .longest)
-refusedShown b (lifting from label to) = shows (b .vertices) (b .longest)
+refusedShown b (insertion from label to) = shows (b .vertices) (b .longest)
+refusedShown b (removal from label to) = shows (b .vertices) (b .longest)
 refusedShown b (card bytes) = nothing
 
 pub record Turn : Type 0 where

@@ -4,7 +4,7 @@ use Prim.Native.Nat.{ℕ, zero, suc}
 use lib.ListN.{length}
 use Rattle.calls.specs.Change.{Header, Memory, Handed, back, none, Change, numbersOf, openCall, insertCall, removeCall}
 use Rattle.calls.specs.Card.{Bytes, readCall}
-use Rattle.demands.specs.Ledger.{Given, opening, laying, lifting, card, Fed, Shown, shows, nothing, Reply}
+use Rattle.demands.specs.Ledger.{Given, opening, insertion, removal, card, Fed, Shown, shows, nothing, Reply}
 
 -- a call, with the work memory lent to it
 pub data Call : Type 0 where
@@ -12,7 +12,7 @@ pub data Call : Type 0 where
   insert remove : (from label to : ℕ) (work : List ℕ) → Call
   read : (card : List ℕ) → Bytes card → (work : List ℕ) → Call
 
--- leg and index memory, and the record of the last accepted change
+-- edge and index memory, and the record of the last accepted change
 pub record Station : Type 0 where
   pub header : Header
   pub edges : List ℕ
@@ -58,8 +58,8 @@ run s (c ∷ more) =
 
 abbrev pub givenBy : Call → Given
 givenBy (opens h) = opening (h .vertices) (h .longest)
-givenBy (insert from label to work) = laying from label to
-givenBy (remove from label to work) = lifting from label to
+givenBy (insert from label to work) = insertion from label to
+givenBy (remove from label to work) = removal from label to
 givenBy (read bytes _ work) = card bytes
 
 abbrev pub workOf : Call → ℕ

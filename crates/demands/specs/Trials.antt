@@ -16,13 +16,13 @@ use Rattle.calls.specs.Query.{queryCall}
 use Rattle.calls.specs.Change.{Memory, Change, removeCall}
 use Rattle.calls.specs.Card.{readCall}
 
--- a layout as a call meets it: places, k and leg memory
+-- a layout as a call meets it: vertices, k and edge memory
 pub record Layout : Type 0 where
   pub vertices : ℕ
   pub longest : ℕ
   pub edges : List ℕ
 
--- "Layout A is the card above": legs 0-1-1, 1-1-2, 1-2-0
+-- "Layout A is the card above": edges 0-1-1, 1-1-2, 1-2-0
 unfoldable pub A : Layout
 A = record { vertices = 3; longest = 2; edges = 257 ∷ 4354 ∷ 4608 ∷ [] }
 
@@ -42,11 +42,11 @@ loop = record { vertices = 1; longest = 1; edges = 256 ∷ [] }
 unfoldable pub B : Layout
 B = record { vertices = 8; longest = 1; edges = 258 ∷ 259 ∷ 516 ∷ 4352 ∷ 20993 ∷ 25089 ∷ 29185 ∷ [] }
 
--- "Lifting 0-2-4": layout B without that leg
-unfoldable pub liftedB : Layout
-liftedB = record { vertices = 8; longest = 1; edges = removeEdge (edgeNumber 0 2 4) (B .edges) }
+-- "Lifting 0-2-4": layout B without that edge
+unfoldable pub removedB : Layout
+removedB = record { vertices = 8; longest = 1; edges = removeEdge (edgeNumber 0 2 4) (B .edges) }
 
--- Fig. 2 of paper 004, place v + 1 there being v here: legs 0-1-1, 0-2-2, 1-1-4, 1-2-4, 2-1-1, 2-1-5, 2-2-0, 2-2-3, 3-1-0, 3-3-5, 4-1-0
+-- Fig. 2 of paper 004, vertex v + 1 there being v here: edges 0-1-1, 0-2-2, 1-1-4, 1-2-4, 2-1-1, 2-1-5, 2-2-0, 2-2-3, 3-1-0, 3-3-5, 4-1-0
 unfoldable pub figure2 : Layout
 figure2 = record { vertices = 6; longest = 2; edges = 257 ∷ 514 ∷ 4356 ∷ 4612 ∷ 8449 ∷ 8453 ∷ 8704 ∷ 8707 ∷ 12544 ∷ 13061 ∷ 16640 ∷ [] }
 
@@ -62,39 +62,39 @@ pub data Case : Type 0 where
   -- a pattern, and its minimum repeat
   repeats : (pattern expected : List ℕ) → Case
   -- a plain check on a layout, from start to destination by a pattern with an allowance, and its reply
-  checks : (y : Layout) (start destination : ℕ) (pattern : List ℕ) (allowance : ℕ) (expected : Reply) → Case
+  searches : (y : Layout) (start destination : ℕ) (pattern : List ℕ) (limit : ℕ) (expected : Reply) → Case
   -- a question on a layout with an index memory, from start to destination by a pattern, and whether it is yes
-  asks : (y : Layout) (index : List ℕ) (start destination : ℕ) (pattern : List ℕ) (expected : Bool) → Case
-  -- a layout, and the entries that its legs determine
+  queries : (y : Layout) (index : List ℕ) (start destination : ℕ) (pattern : List ℕ) (expected : Bool) → Case
+  -- a layout, and the entries that its edges determine
   indexed : (y : Layout) (expected : List ℕ) → Case
   -- a layout, and how many entries it needs
   counts : (y : Layout) (expected : ℕ) → Case
-  -- a card read into so many leg slots and index slots, and the number and leg and index memory that it leaves
+  -- a card read into so many edge slots and index slots, and the number and edge and index memory that it leaves
   reads : (card : List ℕ) (slots room number : ℕ) (edges index : List ℕ) → Case
-  -- a leg lifted from a layout with so many index slots, and its number
-  lifts : (y : Layout) (room from label to number : ℕ) → Case
+  -- an edge removed (lifted) from a layout with so many index slots, and its number
+  removes : (y : Layout) (room from label to number : ℕ) → Case
 
 unfoldable pub trials : List Case
 trials =
     indexed A slotsA
-    ∷ asks A slotsA 0 2 (1 ∷ []) true
-    ∷ asks A slotsA 2 0 (1 ∷ []) false
-    ∷ asks A slotsA 0 0 (1 ∷ 2 ∷ []) true
-    ∷ asks A slotsA 0 0 (1 ∷ []) false
-    ∷ asks A slotsA 0 0 (2 ∷ 1 ∷ []) false
+    ∷ queries A slotsA 0 2 (1 ∷ []) true
+    ∷ queries A slotsA 2 0 (1 ∷ []) false
+    ∷ queries A slotsA 0 0 (1 ∷ 2 ∷ []) true
+    ∷ queries A slotsA 0 0 (1 ∷ []) false
+    ∷ queries A slotsA 0 0 (2 ∷ 1 ∷ []) false
     ∷ repeats (1 ∷ 2 ∷ 1 ∷ 2 ∷ []) (1 ∷ 2 ∷ [])
     ∷ repeats (1 ∷ 2 ∷ 1 ∷ []) (1 ∷ 2 ∷ 1 ∷ [])
-    ∷ checks A 0 2 (1 ∷ []) 0 (Spent 0)
-    ∷ checks A 0 2 (1 ∷ []) 1 (Spent 1)
-    ∷ checks A 0 2 (1 ∷ []) 2 (Yes 2)
-    ∷ checks A 2 0 (1 ∷ []) 1 (No 1)
+    ∷ searches A 0 2 (1 ∷ []) 0 (Spent 0)
+    ∷ searches A 0 2 (1 ∷ []) 1 (Spent 1)
+    ∷ searches A 0 2 (1 ∷ []) 2 (Yes 2)
+    ∷ searches A 2 0 (1 ∷ []) 1 (No 1)
     ∷ indexed loop (1 ∷ [])
     ∷ counts B 7
-    ∷ counts liftedB 8
+    ∷ counts removedB 8
     ∷ reads cardA 3 5 0 (A .edges) slotsA
     ∷ reads cardA 3 4 13 (0 ∷ 0 ∷ 0 ∷ []) (0 ∷ 0 ∷ 0 ∷ 0 ∷ [])
-    ∷ lifts B 7 0 2 4 13
-    ∷ lifts B 8 0 2 4 0
+    ∷ removes B 7 0 2 4 13
+    ∷ removes B 8 0 2 4 0
     ∷ indexed figure2 tableII
     ∷ []
 
@@ -123,26 +123,26 @@ sameAnswer? AnsweredYes expected = expected
 sameAnswer? AnsweredNo expected = not expected
 sameAnswer? (AnsweredRefused n) expected = false
 
--- "the entries that they determine": those of a layout's legs
+-- "the entries that they determine": those of a layout's edges
 unfoldable pub entriesOf : Layout → List ℕ
 entriesOf y = determined (record { vertices = y .vertices; longest = y .longest; edges = standing (y .edges) })
 
--- leg, index and work memory: the legs given, so many index slots, and the least work memory that a build may have
+-- edge, index and work memory: the edges given, so many index slots, and the least work memory that a build may have
 unfoldable pub lent : List ℕ → ℕ → Memory
 lent edges room = record { edges = edges; index = replicate room 0; work = replicate (leastWork + room) 0 }
 
--- a change has that number, and leaves that leg and index memory
+-- a change has that number, and leaves that edge and index memory
 unfoldable pub leaves? : Change → ℕ → List ℕ → List ℕ → Bool
 leaves? c number edges index = eqb (c .answer) number && (same? (c .memory .edges) edges && same? (c .memory .index) index)
 
 -- the definition gives what document 01 expects
 unfoldable pub holds? : Case → Bool
 holds? (repeats pattern expected) = same? (minRepeat pattern) expected
-holds? (checks y s t pattern allowance expected) =
-    sameReply? (searchCall (y .vertices) (y .longest) s t pattern allowance (y .edges) (replicate leastWork 0) .reply) expected
-holds? (asks y index s t pattern expected) = sameAnswer? (queryCall (y .vertices) (y .longest) s t pattern index) expected
+holds? (searches y s t pattern limit expected) =
+    sameReply? (searchCall (y .vertices) (y .longest) s t pattern limit (y .edges) (replicate leastWork 0) .reply) expected
+holds? (queries y index s t pattern expected) = sameAnswer? (queryCall (y .vertices) (y .longest) s t pattern index) expected
 holds? (indexed y expected) = same? (entriesOf y) expected
 holds? (counts y expected) = eqb (length (entriesOf y)) expected
 holds? (reads card slots room number edges index) = leaves? (readCall card (lent (replicate slots 0) room)) number edges index
-holds? (lifts y room from label to number) =
+holds? (removes y room from label to number) =
     eqb (removeCall (record { vertices = y .vertices; longest = y .longest }) from label to (lent (y .edges) room) .answer) number

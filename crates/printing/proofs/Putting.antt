@@ -13,7 +13,7 @@ use Rattle.model.specs.Lists.{spread}
 use Rattle.model.specs.Limits.{sideUnit}
 use Rattle.model.specs.Query.{ownerOf, hubOf, codeOf}
 use Rattle.printing.specs.Puts.{Puts}
-use Rattle.printing.specs.Lines.{digits, number, colours, space, newline, outWord, inWord, sideLine, entryLine, placesWord, longestWord, legsWord, entriesWord, headerLine, refusedWord, refusedLine, listing}
+use Rattle.printing.specs.Lines.{digits, number, labels, space, newline, outWord, inWord, sideLine, entryLine, placesWord, longestWord, legsWord, entriesWord, headerLine, refusedWord, refusedLine, listing}
 
 -- what is spread of one element more
 spread-snoc : (f : ℕ → List ℕ) (l : List ℕ) (x : ℕ) → spread f (l ++ (x ∷ [])) ≡ spread f l ++ f x
@@ -124,7 +124,7 @@ pub refused-is : (n : ℕ) → refusedLine n ≡ (refusedWord ++ number n) ++ ne
 unfolding refusedLine
 refused-is n = simp append-assoc
 
-pub entry-is : (e : ℕ) → entryLine e ≡ (((sideLine e ++ (space ++ number (hubOf e))) ++ space) ++ colours (codeOf e)) ++ newline
+pub entry-is : (e : ℕ) → entryLine e ≡ (((sideLine e ++ (space ++ number (hubOf e))) ++ space) ++ labels (codeOf e)) ++ newline
 unfolding entryLine
 entry-is e = simp append-assoc
 
@@ -140,7 +140,7 @@ pub entry-length : (e : ℕ) → length (entryLine e) ≤ 31
 entry-length e =
     let s = sideLine e in
     let h = space ++ number (hubOf e) in
-    let k = colours (codeOf e) in
+    let k = labels (codeOf e) in
     rw (entry-is e)
     (omega
     (arith, length-append (((s ++ h) ++ space) ++ k) newline, length-append ((s ++ h) ++ space) k, length-append (s ++ h) space, length-append s h, side-length e, field-length space (hubOf e), digits-length 16 4 (codeOf e)))

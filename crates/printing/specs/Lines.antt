@@ -17,9 +17,9 @@ digits b (suc most) n = let more = digits b most (n / b) ++ ((48 + n % b) ∷ []
 abbrev pub number : ℕ → List ℕ
 number n = digits 10 10 n
 
--- the colours of a pattern: its code's hexadecimal digits
-abbrev pub colours : ℕ → List ℕ
-colours code = digits 16 mostLongest code
+-- the labels (colours) of a pattern: its code's hexadecimal digits
+abbrev pub labels : ℕ → List ℕ
+labels code = digits 16 mostLongest code
 
 abbrev pub space : List ℕ
 space = 32 ∷ []
@@ -41,7 +41,7 @@ sideLine e = cond (ltb e sideUnit) outWord inWord ++ number (ownerOf e)
 
 -- "one line for each entry …: side, owner, hub, colours"
 unfoldable pub entryLine : ℕ → List ℕ
-entryLine e = sideLine e ++ (space ++ (number (hubOf e) ++ (space ++ (colours (codeOf e) ++ newline))))
+entryLine e = sideLine e ++ (space ++ (number (hubOf e) ++ (space ++ (labels (codeOf e) ++ newline))))
 
 -- "places "
 abbrev pub placesWord : List ℕ

@@ -68,7 +68,7 @@ fn put_side(out: &mut [u8], at: usize, entry: u64) -> usize
     put_field(out, at, b"in ", owner)
 }
 
-// The line of an entry: side, owner, hub, colours.
+// The line of an entry: side, owner, hub, labels.
 pub fn put_entry(out: &mut [u8], at: usize, entry: u64) -> usize
     requires { ⌜ at + 32 ≤ length (now out) ⌝ }
     ensures { λ r. ⌜ Puts (now (out .entry)) at (entryLine entry) (now (out .exit)) r ⌝ }
@@ -76,8 +76,8 @@ pub fn put_entry(out: &mut [u8], at: usize, entry: u64) -> usize
     let side = put_side(out, at, entry);
     let hub = put_field(out, side, b" ", (entry / 65536 % 256) as u32);
     let space = put(out, hub, b' ');
-    let colours = put_digits(out, space, (entry % 65536) as u32, 16, 4);
-    put(out, colours, b'\n')
+    let labels = put_digits(out, space, (entry % 65536) as u32, 16, 4);
+    put(out, labels, b'\n')
 }
 
 // One line for each entry.

@@ -16,7 +16,7 @@ ghost use Rattle.calls.specs.Query.{queryCall};
 ghost use Rattle.calls.specs.Search.{searchCall, SearchMeets};
 ghost use Rattle.store.specs.Store.{numbers, Meets, Writings, WriteMeets};
 
-// Mark, version, places less one, k and leg count; each leg is 3 bytes behind them.
+// Mark, version, vertices less one, k and edge count; each edge is 3 bytes behind them.
 const HEAD: usize = 9;
 
 // "The record holds the number of places and k."

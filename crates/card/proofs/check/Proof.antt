@@ -41,8 +41,8 @@ cast-longest c = omega (arith, c .shared-slice-known2 .given 6)
 is-longest-requires : tie.Need-is-longest-requires
 is-longest-requires c κs = search needs
 
-has-legs-requires : tie.Need-has-legs-requires
-has-legs-requires c κs = headed (c .before .before .before .before .before)
+has-edges-requires : tie.Need-has-edges-requires
+has-edges-requires c κs = headed (c .before .before .before .before .before)
 
 shared-slice-read-t12 : tie.Need-shared-slice-read-t12
 shared-slice-read-t12 c = omega (arith, headed (c .before .before .before .before .before .before .before .before))
@@ -61,8 +61,8 @@ cast-t16 c = search needs
 
 returns-2 : tie.Need-returns-2
 returns-2 c =
-    let legs = c .before .before in
-    let long = legs .before .before in
+    let body = c .before .before in
+    let long = body .before .before in
     let version = long .before .before .before in
     let test = version .before .before in
     let card = test .before .before .before .args .card .now in
@@ -72,7 +72,7 @@ returns-2 c =
           (pass (marked test)
           (pass (versioned version)
           (pass (sym (long .before .is-longest .ensures) ∙ long .if3 .taken)
-          (pass (sym (legs .before .has-legs .ensures) ∙ legs .if4 .taken) none))));
+          (pass (sym (body .before .has-edges .ensures) ∙ body .if4 .taken) none))));
       header = refl;
       count = c .word2 .ensures;
     }
@@ -87,7 +87,7 @@ returns-3 c =
     (pass (marked test)
     (pass (versioned version)
     (pass (sym (long .before .is-longest .ensures) ∙ long .if3 .taken)
-    (stop (sym (c .before .has-legs .ensures) ∙ c .if4 .left)))))
+    (stop (sym (c .before .has-edges .ensures) ∙ c .if4 .left)))))
 
 returns-4 : tie.Need-returns-4
 returns-4 c =
@@ -109,7 +109,7 @@ check-spec =
     shared-slice-read-longest
     cast-longest
     is-longest-requires
-    has-legs-requires
+    has-edges-requires
     shared-slice-read-t12
     cast-t13
     add-t14

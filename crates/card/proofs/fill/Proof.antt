@@ -1,4 +1,4 @@
--- `card::fill` meets its contract. The invariant: the first i slots hold the first i legs, and the others are as they came.
+-- `card::fill` meets its contract. The invariant: the first i slots hold the first i edges, and the others are as they came.
 use mathlib.Core.List.{_++_}
 use Prim.Native.Nat.{_-_, _≤_}
 use native.Mathlib.Omega.{arith}
@@ -6,7 +6,7 @@ use lib.ListN.{length, drop}
 use Rattle.calls.specs.Card.{headBytes, edgesOf}
 use Rattle.edges.proofs.Mix.{Mixed}
 use Rattle.edges.proofs.Copying.{save-start, save-end}
-use Rattle.card.proofs.Filling.{legs, legs-size, fill-turn, zeros-behind}
+use Rattle.card.proofs.Filling.{cardEdges, card-edges-size, fill-turn, zeros-behind}
 use borrow.Author.Needs.{needs}
 use Rattle.card.proofs.fill.Statement.{statement}
 use Rattle.card.proofs.fill.Tie as tie
@@ -20,16 +20,16 @@ abbrev μ-loop : tie.MeasureT-loop
 loop-holds : tie.Need-loop-holds Inv-loop μ-loop
 loop-holds c =
     let p = c .before .before .pre in
-    save-start (legs p) (c .before .before .args .edges .now) (omega (arith, legs-size p, p .room))
+    save-start (cardEdges p) (c .before .before .args .edges .now) (omega (arith, card-edges-size p, p .room))
 
-mul-leg : tie.Need-mul-leg Inv-loop μ-loop
-mul-leg c = search needs
+mul-edge-at : tie.Need-mul-edge-at Inv-loop μ-loop
+mul-edge-at c = search needs
 
-add-leg : tie.Need-add-leg Inv-loop μ-loop
-add-leg c = search needs
+add-edge-at : tie.Need-add-edge-at Inv-loop μ-loop
+add-edge-at c = search needs
 
-leg-requires : tie.Need-leg-requires Inv-loop μ-loop
-leg-requires c κs = omega (arith, c .before .before .before .before .pre .whole)
+edge-at-requires : tie.Need-edge-at-requires Inv-loop μ-loop
+edge-at-requires c κs = omega (arith, c .before .before .before .before .pre .whole)
 
 mul-edges : tie.Need-mul-edges Inv-loop μ-loop
 mul-edges c = search needs
@@ -46,7 +46,7 @@ loop-less c = search needs
 loop-again : tie.Need-loop-again Inv-loop μ-loop
 loop-again c =
     let at = c .before .before in
-    fill-turn (at .before .before .before .pre) (at .loop .inv) (omega (arith, c .before .loop-test .taken)) (c .leg .ensures)
+    fill-turn (at .before .before .before .pre) (at .loop .inv) (omega (arith, c .before .loop-test .taken)) (c .edge-at .ensures)
 
 mul-clear-edges : tie.Need-mul-clear-edges Inv-loop μ-loop
 mul-clear-edges c = search needs
@@ -71,10 +71,10 @@ returns c =
     let done = c .before .before .before .before in
     let start = done .before .before .before .before in
     let p = start .pre in
-    let room : length (legs p) ≤ length (start .args .edges .now) = omega (arith, legs-size p, p .room) in
-    let past : length (legs p) ≤ done .before .loop .i = omega (arith, legs-size p, done .loop-test .left) in
-    let all = save-end (legs p) (start .args .edges .now) room (done .before .loop .inv) past in
-    zeros-behind (legs p) (start .args .edges .now) (start .args .n) (legs-size p) all (c .before .before .clear-edges .ensures)
+    let room : length (cardEdges p) ≤ length (start .args .edges .now) = omega (arith, card-edges-size p, p .room) in
+    let past : length (cardEdges p) ≤ done .before .loop .i = omega (arith, card-edges-size p, done .loop-test .left) in
+    let all = save-end (cardEdges p) (start .args .edges .now) room (done .before .loop .inv) past in
+    zeros-behind (cardEdges p) (start .args .edges .now) (start .args .n) (card-edges-size p) all (c .before .before .clear-edges .ensures)
 
 pub fill-spec : {M : Type 1} → statement M
 fill-spec =
@@ -83,9 +83,9 @@ fill-spec =
     Inv-loop
     μ-loop
     loop-holds
-    mul-leg
-    add-leg
-    leg-requires
+    mul-edge-at
+    add-edge-at
+    edge-at-requires
     mul-edges
     slice-write-edges
     add-i

@@ -24,15 +24,15 @@ header c = record { vertices = c .before .layout2 .given .0 .0; longest = c .bef
 abbrev memory : tie.After-known-told2 → Memory
 memory c = record { edges = start c .args .edges .now; index = start c .args .index .now; work = start c .args .work .now }
 
--- the legs of the card
-abbrev legs : tie.After-known-told2 → List ℕ
-legs c = edgesOf (drop headBytes (start c .args .card .now))
+-- the edges of the card
+abbrev cardEdges : tie.After-known-told2 → List ℕ
+cardEdges c = edgesOf (drop headBytes (start c .args .card .now))
 
 -- all checks have passed
 passed : (c : tie.After-known-told2) → Reads (start c .args .card .now) (memory c) (header c) (c .before .layout2 .given .0 .1 .1 .0)
 passed c = rw (c .before .layout2 .given .1) at (c .before .before .before .check-read .ensures)
 
-wanted : (c : tie.After-known-told2) → Wanted (header c) (legs c) (memory c)
+wanted : (c : tie.After-known-told2) → Wanted (header c) (cardEdges c) (memory c)
 wanted c = read-wanted (passed c) (omega (arith, c .before .before .before .before .before .before .before .before .before .before .shared-slice-known .given 5))
 
 -- work memory is long enough
@@ -44,7 +44,7 @@ abbrev checked : tie.After-slice-known5 → tie.After-known-told2
 checked c = c .before .before .before .before .before .before .before .before .before
 
 tried : (c : tie.After-slice-known5)
-    → Tried (legs (checked c)) (memory (checked c)) (checked c .before .layout2 .given .0 .1 .1 .0) (c .before .before .fill .last .1 .1 .0)
+    → Tried (cardEdges (checked c)) (memory (checked c)) (checked c .before .layout2 .given .0 .1 .1 .0) (c .before .before .fill .last .1 .1 .0)
     (putMid 2048 (length (memory (checked c) .work) - 2048) (memory (checked c) .work) (c .before .before .before .before .before .before .save .last .1 .0))
 tried c =
     let save = c .before .before .before .before .before .before .save in
@@ -62,7 +62,7 @@ abbrev filled : tie.After-settle → tie.After-slice-known5
 filled c = c .before .before .before .before
 
 leaves : (c : tie.After-settle)
-    → Leaves (settle none (header (checked (filled c))) (legs (checked (filled c))) (memory (checked (filled c)))) (c .settle .result)
+    → Leaves (settle none (header (checked (filled c))) (cardEdges (checked (filled c))) (memory (checked (filled c)))) (c .settle .result)
     (c .settle .last .1 .1 .1 .0) (c .settle .last .1 .1 .1 .1 .0) (c .settle .last .1 .1 .1 .1 .1 .0)
 leaves c = settled (wanted (checked (filled c))) (tried (filled c)) none (c .settle .ensures)
 

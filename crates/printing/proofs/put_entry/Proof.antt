@@ -23,8 +23,8 @@ room-hub c =
 room-space : (c : tie.After-put) → c .put .result + 6 ≤ length (c .put .last .0)
 room-space c = omega (arith, c .put .ensures .end, c .put .kept .0, room-hub (c .before .before .before .before))
 
-room-colours : (c : tie.After-put-digits) → c .put-digits .result + 2 ≤ length (c .put-digits .last .0)
-room-colours c =
+room-labels : (c : tie.After-put-digits) → c .put-digits .result + 2 ≤ length (c .put-digits .last .0)
+room-labels c =
     let blank = c .before .before .before .before in
     let hub = blank .before .before .before .before in
     let side = hub .before .before .before .before .before in
@@ -52,7 +52,7 @@ put-digits-requires : tie.Need-put-digits-requires
 put-digits-requires c κs = (omega arith, (omega arith, omega (arith, room-space (c .before .before .before))))
 
 put-requires-2 : tie.Need-put-requires-2
-put-requires-2 c κs = omega (arith, room-colours (c .before .before .before))
+put-requires-2 c κs = omega (arith, room-labels (c .before .before .before))
 
 same-length : tie.Need-same-length
 same-length c = search needs

@@ -9,18 +9,18 @@ use Rattle.printing.proofs.put_header.Statement.{statement}
 use Rattle.printing.proofs.put_header.Tie as tie
 
 -- what is left of the 72 bytes after each part
-room-places : (c : tie.After-put-field) → c .put-field .result + 55 ≤ length (c .put-field .last .0)
-room-places c =
+room-vertices : (c : tie.After-put-field) → c .put-field .result + 55 ≤ length (c .put-field .last .0)
+room-vertices c =
     let start = c .before .before .before .before in
     omega (arith, c .put-field .ensures .end, c .put-field .kept .0, field-length placesWord (start .args .vertices), start .pre)
 
 room-longest : (c : tie.After-put-field2) → c .put-field2 .result + 36 ≤ length (c .put-field2 .last .0)
 room-longest c =
     let places = c .before .before .before .before .before in
-    omega (arith, c .put-field2 .ensures .end, c .put-field2 .kept .0, field-length longestWord (places .before .before .before .before .args .longest), room-places places)
+    omega (arith, c .put-field2 .ensures .end, c .put-field2 .kept .0, field-length longestWord (places .before .before .before .before .args .longest), room-vertices places)
 
-room-legs : (c : tie.After-put-field3) → c .put-field3 .result + 20 ≤ length (c .put-field3 .last .0)
-room-legs c =
+room-edges : (c : tie.After-put-field3) → c .put-field3 .result + 20 ≤ length (c .put-field3 .last .0)
+room-edges c =
     let longest = c .before .before .before .before .before in
     let places = longest .before .before .before .before .before in
     omega (arith, c .put-field3 .ensures .end, c .put-field3 .kept .0, field-length legsWord (places .before .before .before .before .args .edges), room-longest longest)
@@ -29,7 +29,7 @@ room-entries : (c : tie.After-put-field4) → c .put-field4 .result + 1 ≤ leng
 room-entries c =
     let legs = c .before .before .before .before .before in
     let places = legs .before .before .before .before .before .before .before .before .before .before in
-    omega (arith, c .put-field4 .ensures .end, c .put-field4 .kept .0, field-length entriesWord (places .before .before .before .before .args .entries), room-legs legs)
+    omega (arith, c .put-field4 .ensures .end, c .put-field4 .kept .0, field-length entriesWord (places .before .before .before .before .args .entries), room-edges legs)
 
 slice-aggregate-put-field : tie.Need-slice-aggregate-put-field
 slice-aggregate-put-field c = search needs
@@ -41,7 +41,7 @@ slice-aggregate-put-field-2 : tie.Need-slice-aggregate-put-field-2
 slice-aggregate-put-field-2 c = search needs
 
 put-field-requires-2 : tie.Need-put-field-requires-2
-put-field-requires-2 c κs = omega (arith, room-places (c .before .before .before .before))
+put-field-requires-2 c κs = omega (arith, room-vertices (c .before .before .before .before))
 
 slice-aggregate-put-field-3 : tie.Need-slice-aggregate-put-field-3
 slice-aggregate-put-field-3 c = search needs
@@ -53,7 +53,7 @@ slice-aggregate-put-field-4 : tie.Need-slice-aggregate-put-field-4
 slice-aggregate-put-field-4 c = search needs
 
 put-field-requires-4 : tie.Need-put-field-requires-4
-put-field-requires-4 c κs = omega (arith, room-legs (c .before .before .before .before))
+put-field-requires-4 c κs = omega (arith, room-edges (c .before .before .before .before))
 
 put-requires : tie.Need-put-requires
 put-requires c κs = omega (arith, room-entries (c .before .before .before))

@@ -4,8 +4,8 @@ use Prim.Native.Nat.{_+_}
 use native.Mathlib.Omega.{arith}
 use borrow.Author.Needs.{needs}
 use Rattle.calls.proofs.Card.{and-pass, and-stop}
-use Rattle.card.proofs.is_leg.Statement.{statement}
-use Rattle.card.proofs.is_leg.Tie as tie
+use Rattle.card.proofs.is_edge_at.Statement.{statement}
+use Rattle.card.proofs.is_edge_at.Tie as tie
 
 shared-slice-read-from : tie.Need-shared-slice-read-from
 shared-slice-read-from c = search needs
@@ -43,8 +43,8 @@ returns c = c .is-label .ensures ∙ sym (and-pass (sym (c .before .before .are-
 returns-2 : tie.Need-returns-2
 returns-2 c = sym (and-stop _ (sym (c .before .are-vertices .ensures) ∙ c .if1 .left))
 
-pub is-leg-spec : {M : Type 1} → statement M
-is-leg-spec =
+pub is-edge-at-spec : {M : Type 1} → statement M
+is-edge-at-spec =
     tie.close
     (tie.spec
     shared-slice-read-from

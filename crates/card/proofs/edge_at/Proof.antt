@@ -1,9 +1,9 @@
--- `card::leg` meets its contract: three bytes fit in a number.
+-- `card::edge` meets its contract: three bytes fit in a number.
 use Prim.Native.Nat.{_+_}
 use native.Mathlib.Omega.{arith}
 use borrow.Author.Needs.{needs}
-use Rattle.card.proofs.leg.Statement.{statement}
-use Rattle.card.proofs.leg.Tie as tie
+use Rattle.card.proofs.edge_at.Statement.{statement}
+use Rattle.card.proofs.edge_at.Tie as tie
 
 shared-slice-read-result : tie.Need-shared-slice-read-result
 shared-slice-read-result c = search needs
@@ -48,8 +48,8 @@ add-result-4 c =
 returns : tie.Need-returns
 returns c = search needs
 
-pub leg-spec : {M : Type 1} → statement M
-leg-spec =
+pub edge-at-spec : {M : Type 1} → statement M
+edge-at-spec =
     tie.close
     (tie.spec
     shared-slice-read-result

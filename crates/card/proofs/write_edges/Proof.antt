@@ -1,21 +1,21 @@
--- `card::write_legs` meets its contract. The invariant: the first i legs are written, and the bytes behind them are as they came.
+-- `card::write_legs` meets its contract. The invariant: the first i edges are written, and the bytes behind them are as they came.
 use Prim.Native.Nat.{_-_, _*_}
 use native.Mathlib.Omega.{arith}
 use lib.ListN.{length, length-set}
 use Rattle.edges.proofs.Mix.{Mixed}
-use Rattle.card.proofs.Writing.{legsOver, legs-start, leg-narrow, legs-turn, legs-end}
+use Rattle.card.proofs.Writing.{bytesOver, body-start, edge-narrow, body-turn, body-end}
 use borrow.Author.Needs.{needs}
-use Rattle.card.proofs.write_legs.Statement.{statement}
-use Rattle.card.proofs.write_legs.Tie as tie
+use Rattle.card.proofs.write_edges.Statement.{statement}
+use Rattle.card.proofs.write_edges.Tie as tie
 
 abbrev Inv-loop : tie.InvT-loop
-Inv-loop edges output₀ i₀ output i = Mixed (legsOver edges output₀) output₀ output (3 * i)
+Inv-loop edges output₀ i₀ output i = Mixed (bytesOver edges output₀) output₀ output (3 * i)
 
 abbrev μ-loop : tie.MeasureT-loop
 μ-loop edges output₀ i₀ output i = length edges - i
 
 loop-holds : tie.Need-loop-holds Inv-loop μ-loop
-loop-holds c = legs-start (c .pre)
+loop-holds c = body-start (c .pre)
 
 mul-x : tie.Need-mul-x Inv-loop μ-loop
 mul-x c = search needs
@@ -29,7 +29,7 @@ mul-at c = omega (arith, c .before .before .before .pre .room)
 cast-output : tie.Need-cast-output Inv-loop μ-loop
 cast-output c =
     let at = c .before .before in
-    omega (arith, leg-narrow (at .before .pre) (at .loop .i) (c .before .loop-test .taken))
+    omega (arith, edge-narrow (at .before .pre) (at .loop .i) (c .before .loop-test .taken))
 
 slice-write-output : tie.Need-slice-write-output Inv-loop μ-loop
 slice-write-output c = omega (arith, c .before .before .before .pre .room, c .before .before .loop .inv .size)
@@ -61,16 +61,16 @@ loop-less c = search needs
 loop-again : tie.Need-loop-again Inv-loop μ-loop
 loop-again c =
     let at = c .before .before in
-    legs-turn (at .before .pre) (at .loop .inv) (c .before .loop-test .taken)
+    body-turn (at .before .pre) (at .loop .inv) (c .before .loop-test .taken)
 
 same-length : tie.Need-same-length Inv-loop μ-loop
 same-length c = c .before .loop .inv .size
 
 returns : tie.Need-returns Inv-loop μ-loop
-returns c = legs-end (c .before .before .pre) (c .before .loop .inv) (c .loop-test .left)
+returns c = body-end (c .before .before .pre) (c .before .loop .inv) (c .loop-test .left)
 
-pub write-legs-spec : {M : Type 1} → statement M
-write-legs-spec =
+pub write-edges-spec : {M : Type 1} → statement M
+write-edges-spec =
     tie.close
     (tie.spec
     Inv-loop

@@ -2,11 +2,11 @@
 use mathlib.Core.Path.{_≡_, sym, ap, _∙_}
 use native.Mathlib.Omega.{arith}
 use borrow.Author.Needs.{needs}
-use Rattle.calls.specs.Card.{headBytes, headerOf, risingLegs?}
-use Rattle.calls.proofs.Card.{legs-long, legs-body}
+use Rattle.calls.specs.Card.{headBytes, headerOf, risingTriples?}
+use Rattle.calls.proofs.Card.{card-edges-long, card-edges-body}
 use Rattle.card.proofs.Filling.{part-all}
-use Rattle.card.proofs.has_legs.Statement.{statement}
-use Rattle.card.proofs.has_legs.Tie as tie
+use Rattle.card.proofs.has_edges.Statement.{statement}
+use Rattle.card.proofs.has_edges.Tie as tie
 
 word-requires : tie.Need-word-requires
 word-requires c κs = search needs
@@ -21,7 +21,7 @@ add-if1 : tie.Need-add-if1
 add-if1 c = search needs
 
 returns : tie.Need-returns
-returns c = sym (legs-long (c .before .before .before .args .card .now) (rw (c .before .word .ensures) at (c .if1 .taken)))
+returns c = sym (card-edges-long (c .before .before .before .args .card .now) (rw (c .before .word .ensures) at (c .if1 .taken)))
 
 shared-slice-read-are-rising : tie.Need-shared-slice-read-are-rising
 shared-slice-read-are-rising c = search needs
@@ -49,10 +49,10 @@ returns-2 c =
     let whole = c .before .before .before in
     let card = whole .before .before .before .args .card .now in
     let size = rw (whole .before .word .ensures) at (whole .if1 .left) in
-    c .are-rising .ensures ∙ ap (risingLegs? (headerOf card .vertices) 0) (part-all card headBytes) ∙ sym (legs-body card size)
+    c .are-rising .ensures ∙ ap (risingTriples? (headerOf card .vertices) 0) (part-all card headBytes) ∙ sym (card-edges-body card size)
 
-pub has-legs-spec : {M : Type 1} → statement M
-has-legs-spec =
+pub has-edges-spec : {M : Type 1} → statement M
+has-edges-spec =
     tie.close
     (tie.spec
     word-requires
