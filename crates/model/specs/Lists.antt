@@ -1,9 +1,9 @@
--- Lists as the definitions use them: membership, tests, what passes a test, ranges, rising order, and zeros behind.
+-- Lists as the definitions use them: membership, tests, what passes a test, ranges, rising order, where a key belongs, and zeros behind.
 use mathlib.Core.Bool.{Bool, true, false, _&&_, _||_}
 use mathlib.Core.List.{List, [], _∷_, _++_, List·Memᴰ}
-use Prim.Native.Nat.{ℕ, zero, suc, _-_, _<_}
+use Prim.Native.Nat.{ℕ, zero, suc, _-_, _≤_, _<_}
 use lib.Dec.{eqb, leb}
-use lib.ListN.{length, replicate}
+use lib.ListN.{length, getD, replicate}
 
 infix 50 _∈_
 abbrev pub _∈_ : ℕ → List ℕ → Type 0
@@ -67,6 +67,13 @@ pub data Sorted {A : Type 0} (R : A → A → Type 0) : List A → Type 0 where
 -- "strictly rising"
 abbrev pub Rising : List ℕ → Type 0
 Rising l = Sorted _<_ l
+
+-- the numbers before slot lo are below key, and those from slot hi on are not
+pub record Bracket (xs : List ℕ) (key lo hi : ℕ) : Type 0 where
+  pub met : lo ≤ hi
+  pub most : hi ≤ length xs
+  pub under : (i : ℕ) → i < lo → getD xs i 0 < key
+  pub above : (i : ℕ) → hi ≤ i → i < length xs → key ≤ getD xs i 0
 
 -- "then zeros": those numbers, and zeros behind them, m slots in all
 abbrev pub filled : ℕ → List ℕ → List ℕ

@@ -8,7 +8,7 @@ use native.Mathlib.Decide.{decLe}
 use native.Mathlib.Omega.{arith}
 use lib.ListN.{length, getD, take, drop, length-drop}
 use lib.Seq.{length-take-le, getD-take, getD-drop}
-use Rattle.model.specs.Lists.{_∈_, mem?, Rising}
+use Rattle.model.specs.Lists.{_∈_, mem?, Rising, Bracket}
 use Rattle.model.specs.Limits.{mostVertices, mostLongest, hubUnit, ownerUnit, sideUnit}
 use Rattle.model.specs.Patterns.{Keyed, code}
 use Rattle.model.specs.Entries.{outEntry, inEntry}
@@ -19,7 +19,7 @@ use Rattle.model.proofs.Patterns.{code-below}
 use Rattle.model.proofs.Query.{test-answers}
 use Rattle.model.proofs.IndexMemory.{test-entry}
 use Rattle.query.specs.Memory.{Indexed, Says}
-use Rattle.query.specs.Parts.{Bracket, lowOf, Listed, Shared, Joins}
+use Rattle.query.specs.Parts.{lowOf, Listed, Shared, Joins}
 
 -- ---- an owner's list: the entries from key on, below key + 2^24
 

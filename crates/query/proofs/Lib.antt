@@ -2,7 +2,6 @@ pub mod Codes
 pub mod Limits
 pub mod Scanning
 pub mod Skimming
-pub mod Halving
 pub mod Joining
 pub mod Answering
 pub mod Call

@@ -1,18 +1,11 @@
--- Rising numbers by halving, an owner's list as a part of the index, and what the joining of two lists finds.
+-- An owner's list as a part of the index, and what the joining of two lists finds.
 use mathlib.Core.Path.{_≡_}
 use mathlib.Core.Bool.{Bool, true, false}
 use mathlib.Core.List.{List}
-use Prim.Native.Nat.{ℕ, _%_, _≤_, _<_}
+use Prim.Native.Nat.{ℕ, _%_, _<_}
 use lib.ListN.{length, getD}
 use Rattle.model.specs.Limits.{ownerUnit}
 use Rattle.model.specs.Query.{codeOf}
-
--- the numbers before slot lo are below key, and those from slot hi on are not
-pub record Bracket (xs : List ℕ) (key lo hi : ℕ) : Type 0 where
-  pub met : lo ≤ hi
-  pub most : hi ≤ length xs
-  pub under : (i : ℕ) → i < lo → getD xs i 0 < key
-  pub above : (i : ℕ) → hi ≤ i → i < length xs → key ≤ getD xs i 0
 
 -- hub and code of an entry, hub × 2^16 + code
 abbrev pub lowOf : ℕ → ℕ

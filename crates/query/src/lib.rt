@@ -6,7 +6,7 @@ ghost use mathlib.Core.Path.{_≡_};
 ghost use mathlib.Core.Bool.{Bool, _&&_};
 ghost use Prim.Native.Nat.{_≤_, _<_, _^_};
 ghost use lib.ListN.{length};
-ghost use Rattle.model.specs.Lists.{Rising, mem?};
+ghost use Rattle.model.specs.Lists.{Rising, Bracket, mem?};
 ghost use Rattle.model.specs.Limits.{mostLongest};
 ghost use Rattle.model.specs.Edges.{zeros?, label?};
 ghost use Rattle.model.specs.Patterns.{Keyed};
@@ -16,7 +16,7 @@ ghost use Rattle.calls.specs.Query.{queryCall};
 ghost use Rattle.query.specs.Memory.{scanOf, Says};
 ghost use Rattle.query.specs.Codes.{repeats?};
 ghost use Rattle.query.specs.Scan.{Seen, Looks, FieldEnd, Within, Limits, Skims};
-ghost use Rattle.query.specs.Parts.{Bracket, Listed, Joins};
+ghost use Rattle.query.specs.Parts.{Listed, Joins};
 ghost use Rattle.query.specs.Call.{Checks};
 
 // What the fields of an entry are multiplied by. Hub and code together are what is below OWNER.

@@ -1,20 +1,20 @@
--- `edges::find` meets its contract. The invariant: the slot before which the edge belongs lies from lo to hi.
+-- `edges::find` meets its contract. The invariant: the ends bracket the slot where the edge belongs.
 use mathlib.Core.Path.{sym}
 use Prim.Native.Nat.{_-_}
 use native.Mathlib.Omega.{arith}
 use borrow.Author.Needs.{needs}
-use Rattle.edges.proofs.Halving.{Halving, halving-start, halving-right, halving-left, halving-at, halving-before}
+use Rattle.edges.proofs.Halving.{Sought, sought-start, sought-right, sought-left, sought-at, sought-before}
 use Rattle.edges.proofs.find.Statement.{statement}
 use Rattle.edges.proofs.find.Tie as tie
 
 abbrev Inv-loop : tie.InvT-loop
-Inv-loop edges n edge lo₀ hi₀ lo hi = Halving edges n edge lo hi
+Inv-loop edges n edge lo₀ hi₀ lo hi = Sought edges n edge lo hi
 
 abbrev μ-loop : tie.MeasureT-loop
 μ-loop edges n edge lo₀ hi₀ lo hi = hi - lo
 
 loop-holds : tie.Need-loop-holds Inv-loop μ-loop
-loop-holds c = halving-start _ _ _ (c .pre .0) (c .pre .1)
+loop-holds c = sought-start _ _ _ (c .pre .0) (c .pre .1)
 
 sub-mid : tie.Need-sub-mid Inv-loop μ-loop
 sub-mid c = search needs
@@ -35,13 +35,13 @@ loop-less : tie.Need-loop-less Inv-loop μ-loop
 loop-less c = search needs
 
 loop-again : tie.Need-loop-again Inv-loop μ-loop
-loop-again c = halving-right (c .before .before .before .loop .inv) _ (omega arith) (c .if1 .taken)
+loop-again c = sought-right (c .before .before .before .loop .inv) _ (omega arith) (omega arith) (c .if1 .taken)
 
 loop-less-2 : tie.Need-loop-less-2 Inv-loop μ-loop
 loop-less-2 c = search needs
 
 loop-again-2 : tie.Need-loop-again-2 Inv-loop μ-loop
-loop-again-2 c = halving-left (c .before .before .before .loop .inv) _ (omega arith) (c .if1 .left)
+loop-again-2 c = sought-left (c .before .before .before .loop .inv) _ (omega arith) (omega arith) (c .if1 .left)
 
 mul-if3 : tie.Need-mul-if3 Inv-loop μ-loop
 mul-if3 c = search needs
@@ -52,17 +52,17 @@ shared-slice-read-if3 c = search needs
 returns : tie.Need-returns Inv-loop μ-loop
 returns c =
     let l = c .before .before .before in
-    sym (halving-at (l .before .loop .inv) (l .loop-test .left) (c .before .before .if2 .taken) (c .if3 .taken))
+    sym (sought-at (l .before .loop .inv) (l .loop-test .left) (c .before .before .if2 .taken) (c .if3 .taken))
 
 returns-2 : tie.Need-returns-2 Inv-loop μ-loop
 returns-2 c =
     let l = c .before .before .before in
-    sym (halving-before (l .before .loop .inv) (l .loop-test .left) (λ _. c .if3 .left))
+    sym (sought-before (l .before .loop .inv) (l .loop-test .left) (λ _. c .if3 .left))
 
 returns-3 : tie.Need-returns-3 Inv-loop μ-loop
 returns-3 c =
     let l = c .before in
-    sym (halving-before (l .before .loop .inv) (l .loop-test .left) (λ h. absurd (omega (arith, c .if2 .left))))
+    sym (sought-before (l .before .loop .inv) (l .loop-test .left) (λ h. absurd (omega (arith, c .if2 .left))))
 
 pub find-spec : {M : Type 1} → statement M
 find-spec =

@@ -2,8 +2,8 @@
 use Prim.Native.Nat.{_-_}
 use native.Mathlib.Omega.{arith}
 use borrow.Author.Needs.{needs}
-use Rattle.query.specs.Parts.{Bracket}
-use Rattle.query.proofs.Halving.{bracket-start, bracket-right, bracket-left, bracket-met}
+use Rattle.model.specs.Lists.{Bracket}
+use Rattle.model.proofs.Halving.{bracket-start, bracket-right, bracket-left, bracket-met}
 use Rattle.query.proofs.first_at.Statement.{statement}
 use Rattle.query.proofs.first_at.Tie as tie
 

@@ -1,7 +1,7 @@
 -- `query::has` meets its contract: an entry stands at the slot where it belongs, or nowhere.
 use mathlib.Core.Path.{sym}
 use borrow.Author.Needs.{needs}
-use Rattle.query.proofs.Halving.{has-at, has-none}
+use Rattle.model.proofs.Halving.{has-at, has-none}
 use Rattle.query.proofs.has.Statement.{statement}
 use Rattle.query.proofs.has.Tie as tie
 

@@ -10,10 +10,9 @@ use native.Mathlib.Omega.{arith}
 use lib.Dec.{eqb}
 use lib.ListN.{length, getD}
 use borrow.Author.Tests.{eq-eqb, ne-eqb}
-use Rattle.model.specs.Lists.{_∈_, mem?, Rising}
+use Rattle.model.specs.Lists.{_∈_, mem?, Rising, Bracket}
 use Rattle.model.proofs.Tests.{test-true, test-false, test-mem}
 use Rattle.model.proofs.Lists.{getD-in, in-getD, rising-lt, rising-le}
-use Rattle.query.specs.Parts.{Bracket}
 
 pub bracket-start : (xs : List ℕ) (key : ℕ) → Bracket xs key 0 (length xs)
 bracket-start xs key = record { met = zero-le; most = le-refl (length xs); under = λ i h. absurd (omega arith); above = λ i h k. absurd (omega arith) }
