@@ -1,12 +1,12 @@
 -- A loop that turns a list into another of the same length, one store a turn: from the front or from the back.
 use mathlib.Core.Path.{_≡_, refl, sym, _∙_}
-use mathlib.Core.Logic.{_≢_}
 use mathlib.Core.List.{List}
 use Prim.Native.Nat.{ℕ, _+_, _≤_, _<_}
-use native.Mathlib.Decide.{decLt, ℕ-discrete}
+use native.Mathlib.Decide.{decLt}
 use native.Mathlib.Omega.{arith}
 use lib.ListN.{length, getD, set, length-set}
-use lib.Seq.{getD-set-same, getD-set-other, ext-getD}
+use lib.Seq.{ext-getD}
+use Rattle.model.proofs.Lists.{getD-set}
 
 -- the list is as a before slot i, and as b from there on
 pub record Mixed (a b cur : List ℕ) (i : ℕ) : Type 0 where
@@ -14,13 +14,6 @@ pub record Mixed (a b cur : List ℕ) (i : ℕ) : Type 0 where
   pub size : length cur ≡ length b
   pub front : (k : ℕ) → k < i → getD cur k 0 ≡ getD a k 0
   pub back : (k : ℕ) → i ≤ k → getD cur k 0 ≡ getD b k 0
-
--- what stands at slot k once v is stored at slot i
-stored : (l : List ℕ) (i v k w : ℕ) → i < length l → (k ≡ i → v ≡ w) → (k ≢ i → getD l k 0 ≡ w) → getD (set l i v) k 0 ≡ w
-stored l i v k w h f g = elim (ℕ-discrete k i) [
-  | yes e ↦ rw e (getD-set-same l i v 0 h) ∙ f e
-  | no d ↦ getD-set-other l i k v 0 d ∙ g d
-]
 
 -- from the front b turns into a
 module _ {a b : List ℕ} where
@@ -36,8 +29,8 @@ module _ {a b : List ℕ} where
         record {
           same = m .same;
           size = length-set cur i v ∙ m .size;
-          front = λ k l. stored cur i v k _ h (λ q. rw q e) (λ d. m .front k (omega arith));
-          back = λ k l. stored cur i v k _ h (λ q. absurd (omega arith)) (λ d. m .back k (omega arith));
+          front = λ k l. getD-set cur i v k _ h (λ q. rw q e) (λ d. m .front k (omega arith));
+          back = λ k l. getD-set cur i v k _ h (λ q. absurd (omega arith)) (λ d. m .back k (omega arith));
         }
 
     pub front-end : ((k : ℕ) → i ≤ k → k < length b → getD b k 0 ≡ getD a k 0) → cur ≡ a
@@ -60,8 +53,8 @@ module _ {a b : List ℕ} where
         record {
           same = m .same;
           size = length-set cur at v ∙ m .size;
-          front = λ k l. stored cur at v k _ h (λ r. absurd (omega arith)) (λ d. m .front k (omega arith));
-          back = λ k l. stored cur at v k _ h (λ r. rw r e) (λ d. m .back k (omega arith));
+          front = λ k l. getD-set cur at v k _ h (λ r. absurd (omega arith)) (λ d. m .front k (omega arith));
+          back = λ k l. getD-set cur at v k _ h (λ r. rw r e) (λ d. m .back k (omega arith));
         }
 
     pub back-end : ((k : ℕ) → k < i → getD a k 0 ≡ getD b k 0) → cur ≡ b

@@ -1,6 +1,6 @@
 -- Lists that are computed, what stands in them, and in which order.
 use mathlib.Core.Path.{_≡_, refl, sym, ap, _∙_}
-use mathlib.Core.Logic.{_⊎_, inl, inr, ⊎-elim}
+use mathlib.Core.Logic.{_⊎_, inl, inr, ⊎-elim, _≢_}
 use mathlib.Core.Bool.{Bool, true, false, not}
 use mathlib.Core.List.{List, [], _∷_, _++_, List·Memᴰ, List·Memᴰ·head, List·Memᴰ·tail, List·Memᴰ·cases-cons, List·Memᴰ·not-nil, List·Memᴰ·append-cases, Memᴰ·append-left, Memᴰ·append-right, Memᴰ·of-map, map}
 use Prim.Native.Nat.{ℕ, zero, suc, _+_, _≤_, _<_}
@@ -8,7 +8,8 @@ use native.Mathlib.Nat.{eq-or-lt-of-le, le-of-suc-le-suc, not-suc-le-zero}
 use native.Mathlib.Decide.{ℕ-discrete}
 use native.Mathlib.Omega.{arith}
 use lib.Dec.{T}
-use lib.ListN.{length, getD}
+use lib.ListN.{length, getD, set}
+use lib.Seq.{getD-set-same, getD-set-other}
 use Rattle.model.specs.Lists.{put, keep, from, upTo, spread, Sorted, none, next, Rising}
 
 module _ {A : Type 0} where
@@ -128,6 +129,13 @@ pub getD-map : (f : ℕ → ℕ) (l : List ℕ) (i : ℕ) → i < length l → g
 getD-map f [] i h = absurd (not-suc-le-zero h)
 getD-map f (x ∷ l) zero h = refl
 getD-map f (x ∷ l) (suc i) h = getD-map f l i (le-of-suc-le-suc h)
+
+-- what stands at slot k once v is stored at slot i
+pub getD-set : (l : List ℕ) (i v k w : ℕ) → i < length l → (k ≡ i → v ≡ w) → (k ≢ i → getD l k 0 ≡ w) → getD (set l i v) k 0 ≡ w
+getD-set l i v k w h f g = elim (ℕ-discrete k i) [
+  | yes e ↦ rw e (getD-set-same l i v 0 h) ∙ f e
+  | no d ↦ getD-set-other l i k v 0 d ∙ g d
+]
 
 -- where an element stands
 pub record Index (l : List ℕ) (x : ℕ) : Type 0 where

@@ -1,5 +1,5 @@
 -- What stores to the numbers of a row make of it.
-use mathlib.Core.Path.{_≡_, refl, _∙_}
+use mathlib.Core.Path.{_≡_, refl, ap, _∙_}
 use mathlib.Core.Bool.{cond}
 use mathlib.Core.List.{List}
 use mathlib.Core.Logic.{_⊎_, ⊎-map, _↔_, Iff·trans, Iff·rfl, Iff·and, Iff·not}
@@ -11,8 +11,9 @@ use lib.Bits.{bitAnd, bitOr, and-zero-r, or-zero-r, xor-zero-r}
 use lib.Dec.{eqb}
 use borrow.Author.Tests.{eq-eqb, ne-eqb}
 use lib.ListN.{length, getD, set, length-set}
-use lib.Seq.{getD-set-same, getD-set-other}
+use lib.Seq.{getD-set-other}
 use Rattle.model.specs.Limits.{mostVertices}
+use Rattle.model.proofs.Lists.{getD-set}
 use Rattle.rows.specs.Rows.{cell, On, Has, Becomes}
 use Rattle.rows.specs.Four.{without, paired, loaded, stored}
 use Rattle.rows.specs.declared.Words.{Words}
@@ -42,10 +43,7 @@ module _ {w : List ℕ} {r : ℕ} (h : Has w r) (v : ℕ → ℕ) where
       record {
         len = length-set cur _ _ ∙ m .len;
         others = λ k n. getD-set-other cur (r * 4 + i) k _ 0 (λ e. n (omega arith)) ∙ m .others k n;
-        done = λ k q. elim (ℕ-discrete k i) [
-          | yes e ↦ rw e (getD-set-same cur (r * 4 + i) _ 0 (omega (arith, m .len)))
-          | no n ↦ getD-set-other cur (r * 4 + i) (r * 4 + k) _ 0 (λ e. n (omega arith)) ∙ m .done k (omega arith)
-        ];
+        done = λ k q. getD-set cur (r * 4 + i) _ (r * 4 + k) _ (omega (arith, m .len)) (λ e. ap v (omega arith)) (λ n. m .done k (omega arith));
       }
 
   stored-is : {P : ℕ → Type 0} → ((j : ℕ) → (bit (v (j / 64)) (j % 64) ≡ 1) ↔ P j)
@@ -114,10 +112,9 @@ module _ {w : List ℕ} {r j : ℕ} (h : Has w r) (l : j < mostVertices) where
       (record {
         len = length-set w spot _;
         others = λ k n. getD-set-other w spot k _ 0 (λ e. n (omega arith));
-        done = λ k q. elim (ℕ-discrete k (j / 64)) [
-          | yes p ↦ rw (eq-eqb k (j / 64) p, p) (getD-set-same w spot _ 0 (omega arith))
-          | no p ↦ rw (ne-eqb k (j / 64) p, z) (getD-set-other w spot (r * 4 + k) _ 0 (λ e. p (omega arith)))
-        ];
+        done = λ k q. getD-set w spot _ (r * 4 + k) _ (omega arith)
+            (λ e. let p : k ≡ j / 64 = omega arith in rw (eq-eqb k (j / 64) p, p) refl)
+            (λ n. rw (ne-eqb k (j / 64) (λ p. n (omega arith)), z) refl);
       })
 
   pub mark-is : Becomes w (set w spot (bitOr (getD w spot 0) (one (j % 64)))) r (λ k. On w r k ⊎ (k ≡ j))
