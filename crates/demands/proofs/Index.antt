@@ -1,32 +1,30 @@
 -- Index memory that holds the entries a graph determines: it passes check 12 and answers rightly, and no entry can be struck out of it.
 use mathlib.Core.Path.{_≡_, refl, sym, ap, _∙_}
 use mathlib.Core.Logic.{_↔_}
-use mathlib.Core.Bool.{Bool, true, false}
+use mathlib.Core.Bool.{Bool, true}
 use mathlib.Core.List.{List, [], _∷_, _++_, append-assoc, append-nil, List·Memᴰ·head, List·Memᴰ·tail}
 use Prim.Native.Nat.{ℕ, zero, suc, _+_, _*_, _-_, _/_, _%_, _≤_, _<_}
 use native.Mathlib.Omega.{arith}
-use lib.Dec.{T, eqb}
-use lib.ListN.{length, replicate}
-use Rattle.model.specs.Lists.{_∈_, keep, none, next, Rising, filled}
+use lib.Dec.{T}
+use lib.ListN.{length}
+use Rattle.model.specs.Lists.{_∈_, keep, Rising, filled}
 use Rattle.model.specs.Limits.{mostLongest}
-use Rattle.model.specs.Edges.{Graph, Small, zeros?, standing}
+use Rattle.model.specs.Edges.{Graph, Small, standing}
 use Rattle.model.specs.Patterns.{Keyed, keyed?, Pattern, codeFrom, code, minRepeat}
 use Rattle.model.specs.Walks.{Runs}
 use Rattle.model.specs.Order.{Names}
 use Rattle.model.specs.Entries.{entryOf, Asked, IsEntry, entries}
 use Rattle.model.specs.Query.{digits, code?, entry?, risingEntries?, indexMemory?, answers?}
-use Rattle.model.proofs.Tests.{test-and, test-eq, test-lt, test-true, test-false, test-yields}
+use Rattle.model.proofs.Tests.{test-and, test-true, test-false, test-yields}
 use Rattle.model.proofs.Lists.{keep-out, sorted-keep}
 use Rattle.model.proofs.Patterns.{Digits, test-keyed, test-own, code-below, min-repeat-unique, folded}
 use Rattle.model.proofs.Memory.{standing-filled}
 use Rattle.model.proofs.Entries.{entries-out, entries-rise}
 use Rattle.model.proofs.Renumber.{entry-fields}
 use Rattle.model.proofs.Query.{test-answers, right, struck-out}
-use Rattle.model.proofs.IndexMemory.{Valid, test-entry, Ordered, index-memory, answers-alone}
+use Rattle.model.proofs.Zeros.{not-zero, rising-zeros, Ordered}
+use Rattle.model.proofs.IndexMemory.{Valid, test-entry, index-memory, answers-alone}
 use Rattle.demands.specs.Index.{Turned}
-
-not-zero : (x : ℕ) → 1 ≤ x → eqb x 0 ≡ false
-not-zero x h = test-false (test-eq x 0) (λ e. omega arith)
 
 -- ---- the digits of the code of a pattern are the pattern
 
@@ -88,30 +86,12 @@ entry-some : (n k x : ℕ) → entry? n k x ≡ true → 1 ≤ x
 entry-some n k zero e = absurd (not-coded k (test-yields (test-entry n k 0) e .coded))
 entry-some n k (suc x) e = omega arith
 
-zeros-zeros : (m : ℕ) → zeros? (replicate m 0) ≡ true
-unfolding zeros?
-zeros-zeros zero = refl
-zeros-zeros (suc m) = zeros-zeros m
-
 module _ (vertices longest : ℕ) where
-  none-left : (prev m : ℕ) → risingEntries? vertices longest prev (replicate m 0) ≡ true
-  unfolding risingEntries?
-  none-left prev zero = refl
-  none-left prev (suc m) = zeros-zeros m
-
-  rising-zeros : {l : List ℕ} (prev m : ℕ) → Rising l → ((x : ℕ) → x ∈ l → (prev < x) × (entry? vertices longest x ≡ true))
-      → risingEntries? vertices longest prev (l ++ replicate m 0) ≡ true
-  unfolding risingEntries?
-  rising-zeros prev m none f = none-left prev m
-  rising-zeros prev m (next {x = x} h s) f =
-      let (a, b) = f x (List·Memᴰ·head refl) in
-      rw (not-zero x (omega arith), test-true (test-lt prev x) a, b) (rising-zeros x m s (λ z k. (h z k, f z (List·Memᴰ·tail k) .1)))
-
   -- for any such entries, so also for what is left where some are struck out and the others closed up
   pub memory-passes : (slots : ℕ) (l : List ℕ) → Rising l → ((x : ℕ) → x ∈ l → entry? vertices longest x ≡ true)
       → indexMemory? vertices longest (filled slots l) ≡ true
-  unfolding indexMemory?
-  memory-passes slots l s f = rising-zeros 0 (slots - length l) s (λ x m. (entry-some vertices longest x (f x m), f x m))
+  unfolding indexMemory? risingEntries?
+  memory-passes slots l s f = rising-zeros (entry? vertices longest) (slots - length l) 0 s (λ x m. (entry-some vertices longest x (f x m), f x m))
 
   -- such memory answers as its entries do
   memory-answers : (slots : ℕ) (l : List ℕ) → Rising l → ((x : ℕ) → x ∈ l → entry? vertices longest x ≡ true)
@@ -119,9 +99,9 @@ module _ (vertices longest : ℕ) where
       → answers? vertices (filled slots l) pattern s t ≡ answers? vertices l pattern s t
   memory-answers slots l rise f p s t =
       let e : standing (filled slots l) ≡ l = standing-filled slots l (λ x m. entry-some vertices longest x (f x m)) in
-      let o : Ordered vertices longest 0 (filled slots l) (standing (filled slots l)) =
+      let o : Ordered (entry? vertices longest) 0 (filled slots l) (standing (filled slots l)) =
       index-memory vertices longest (filled slots l) (memory-passes slots l rise f) in
-      sym (answers-alone (rw e at o) p s t)
+      sym (answers-alone (rw e at o) vertices p s t)
 
 -- ---- what the memory of a graph answers, whole and with entries struck out
 

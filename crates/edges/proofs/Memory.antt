@@ -1,77 +1,25 @@
 -- Edge memory, for callers: what check 3 and a lookup say of it, and what an insertion and a removal leave.
 use mathlib.Core.Path.{_≡_, refl, sym, ap, _∙_}
 use mathlib.Core.Logic.{_⊎_, inl, inr, ⊎-elim, _↔_, _≢_}
-use mathlib.Core.Bool.{Bool, true, false, _&&_}
-use mathlib.Core.List.{List, [], _∷_, _++_, List·Memᴰ·head, List·Memᴰ·tail, List·Memᴰ·cases-cons, List·Memᴰ·not-nil}
-use Prim.Native.Nat.{ℕ, zero, suc, _-_, _≤_, _<_, zero-le, suc-le-suc}
-use native.Mathlib.Nat.{le-of-suc-le-suc, not-suc-le-zero}
+use mathlib.Core.Bool.{true, false}
+use mathlib.Core.List.{List, [], _∷_, List·Memᴰ·head, List·Memᴰ·tail, List·Memᴰ·cases-cons, List·Memᴰ·not-nil}
+use Prim.Native.Nat.{ℕ, suc, _≤_, _<_, zero-le, suc-le-suc}
 use native.Mathlib.Decide.{decLt, ℕ-discrete}
 use native.Mathlib.Omega.{arith}
-use lib.ListN.{length, getD, take, replicate, length-append, length-replicate}
-use lib.Seq.{take-append-seam}
-use lib.Dec.{eqb, ltb, leb}
-use borrow.Author.Tests.{eq-eqb, ne-eqb, lt-ltb, le-ltb, ltb-true, leb-true, eqb-true}
-use Rattle.model.specs.Lists.{_∈_, none, next, Rising, filled, zeroed}
+use lib.Dec.{T}
+use lib.ListN.{length, getD, take}
+use borrow.Author.Tests.{eq-eqb, ne-eqb, lt-ltb, le-ltb}
+use Rattle.model.specs.Lists.{_∈_, none, next, Rising}
 use Rattle.model.specs.Limits.{mostEdges}
-use Rattle.model.specs.Edges.{edge?, zeros?, risingEdges?, edgeMemory?, standing, insertEdge, removeEdge}
-use Rattle.model.proofs.Tests.{test-dec, test-and, test-eq, test-lt}
+use Rattle.model.specs.Edges.{edge?, rising?, risingEdges?, edgeMemory?, standing, insertEdge, removeEdge}
+use Rattle.model.proofs.Tests.{test-yields, test-dec, test-and, test-eq, test-le, test-lt, both-ways, test-T}
 use Rattle.model.proofs.Lists.{getD-in}
+use Rattle.model.proofs.Zeros.{filled-within, filled-front, ordered}
 use Rattle.edges.specs.Memory.{scanOf, below, findOf, Holds}
 use Rattle.edges.specs.declared.Scanned.the-variants.{Edges, Invalid}
 use Rattle.edges.specs.declared.Found.the-variants.{At, Before}
 
-both-ways : {A : Type 0} (t : Bool) → (t ≡ true → A) → (t ≡ false → A) → A
-both-ways true f g = f refl
-both-ways false f g = g refl
-
-and-true : (a b : Bool) → a && b ≡ true → (a ≡ true) × (b ≡ true)
-and-true true b e = (refl, e)
-and-true false b e = absurd (let z : _≡_ {A = ℕ} 0 1 = cc in omega arith)
-
 -- ---- check 3
-
--- what a passed check says: the edges s stand in xs above prev, and zeros follow them
-record Ordered (vertices prev : ℕ) (xs s : List ℕ) : Type 0 where
-  each : (x : ℕ) → x ∈ s → (prev < x) × (edge? vertices x ≡ true)
-  sorted : Rising s
-  zeros : xs ≡ filled (length xs) s
-
-zeros-out : (xs : List ℕ) → zeros? xs ≡ true → xs ≡ zeroed xs
-unfolding zeros?
-zeros-out [] h = refl
-zeros-out (x ∷ xs) h = let (a, b) = and-true (eqb x 0) (zeros? xs) h in cc (eqb-true x 0 a, zeros-out xs b)
-
-module _ {vertices prev x : ℕ} {xs : List ℕ} where
-  ordered-next : {s : List ℕ} → prev < x → edge? vertices x ≡ true → Ordered vertices x xs s → Ordered vertices prev (x ∷ xs) (x ∷ s)
-  ordered-next {s} l e o =
-      record {
-        each = λ z m. ⊎-elim (λ q. rw q (l, e)) (λ k. let (a, b) = o .each z k in (omega arith, b)) (List·Memᴰ·cases-cons m);
-        sorted = next (λ z m. o .each z m .0) (o .sorted);
-        zeros =
-            let q : length xs - length s ≡ suc (length xs) - suc (length s) = omega arith in
-            ap (λ (l : List ℕ). x ∷ l) (o .zeros ∙ ap (λ (m : ℕ). s ++ replicate m 0) q);
-      }
-
-  ordered-zero : x ≡ 0 → zeros? xs ≡ true → Ordered vertices prev (x ∷ xs) []
-  ordered-zero e z =
-      record {
-        each = λ z m. absurd (List·Memᴰ·not-nil m);
-        sorted = none;
-        zeros =
-            let q : suc (length xs) ≡ suc (length xs) - 0 = omega arith in
-            rw e (ap (λ (l : List ℕ). 0 ∷ l) (zeros-out xs z) ∙ ap (λ (m : ℕ). replicate m 0) q);
-      }
-
-ordered : (vertices prev : ℕ) (xs : List ℕ) → risingEdges? vertices prev xs ≡ true → Ordered vertices prev xs (standing xs)
-unfolding risingEdges? standing
-ordered vertices prev [] h = record { each = λ z m. absurd (List·Memᴰ·not-nil m); sorted = none; zeros = refl }
-ordered vertices prev (x ∷ xs) h =
-    both-ways (eqb x 0)
-    (λ e. rw e (ordered-zero (eqb-true x 0 e) (rw e at h)))
-    (λ e.
-    let (a, k) = and-true (ltb prev x) (edge? vertices x && risingEdges? vertices x xs) (rw e at h) in
-    let (b, r) = and-true (edge? vertices x) (risingEdges? vertices x xs) k in
-    rw e (ordered-next (ltb-true prev x a) b (ordered vertices x xs r)))
 
 -- edge memory of the graph, in which n edges stand
 pub record Scans (vertices : ℕ) (xs : List ℕ) (n : ℕ) : Type 0 where
@@ -86,28 +34,32 @@ pub record Scans (vertices : ℕ) (xs : List ℕ) (n : ℕ) : Type 0 where
 
 module _ {xs : List ℕ} {n : ℕ} (h : Holds xs n) where
   pub holds-within : n ≤ length xs
-  holds-within = omega (arith, h .count, simp (length-append, length-replicate) at (ap length (h .zeros)))
+  holds-within = rw (h .count) (filled-within (standing xs) (h .zeros))
 
   pub holds-front : take n xs ≡ standing xs
-  holds-front = rw (h .count) (ap (take (length (standing xs))) (h .zeros) ∙ take-append-seam (standing xs) _)
+  holds-front = rw (h .count) (filled-front (standing xs) (h .zeros))
 
 one-result : {A : Type 0} {n : ℕ} → Edges n ≡ Invalid → A
 one-result e = absurd (let z : _≡_ {A = ℕ} 0 1 = cc in omega arith)
 
 module _ (vertices : ℕ) (xs : List ℕ) where
+  passed : edgeMemory? vertices xs ≡ true → (length xs ≤ mostEdges) × T (rising? (edge? vertices) 0 xs)
+  unfolding edgeMemory? risingEdges?
+  passed = test-yields (test-and (test-le (length xs) mostEdges) (test-T (rising? (edge? vertices) 0 xs)))
+
   pub scans : {n : ℕ} → scanOf vertices xs ≡ Edges n → Scans vertices xs n
   unfolding scanOf
   scans {n} e = both-ways (edgeMemory? vertices xs) (λ t. given t (rw t at e)) (λ t. one-result (sym (rw t at e)))
     where
       given : edgeMemory? vertices xs ≡ true → Edges (length (standing xs)) ≡ Edges n → Scans vertices xs n
       given t e =
-          let (a, b) = and-true (leb (length xs) mostEdges) (risingEdges? vertices 0 xs) (unfold edgeMemory? in t) in
-          let o = ordered vertices 0 xs b in
+          let (few, rise) = passed t in
+          let o = ordered (edge? vertices) 0 xs rise in
           let c : n ≡ length (standing xs) = cc in
           let h : Holds xs n = record { count = c; zeros = o .zeros } in
           record {
             memory = t;
-            slots = leb-true _ _ a;
+            slots = few;
             count = c;
             within = holds-within h;
             front = holds-front h;

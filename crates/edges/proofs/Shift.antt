@@ -5,7 +5,7 @@ use Prim.Native.Nat.{ℕ, zero, suc, _+_, _-_, _≤_, _<_}
 use native.Mathlib.Nat.{le-of-suc-le-suc, not-suc-le-zero}
 use native.Mathlib.Numerals.{add-one}
 use native.Mathlib.Omega.{arith}
-use lib.ListN.{length, getD, set, replicate, length-append, length-replicate, List·getD-eq-default}
+use lib.ListN.{length, getD, set, replicate, List·getD-eq-default}
 use Rattle.model.specs.Lists.{filled}
 use Rattle.model.specs.Edges.{standing, insertEdge, removeEdge}
 use Rattle.edges.specs.Memory.{Holds, Insertable, Removable}
@@ -13,6 +13,7 @@ use Rattle.edges.proofs.Mix.{Mixed, front-start, front-turn, front-end,
 use Rattle.edges.proofs.Memory.{Placed, last, here, past, placed, placed-most, Removed, first, later, removed}
 use Rattle.edges.proofs.Memory.{holds-within, length-insert, length-remove}
 use Rattle.model.proofs.Lists.{getD-in}
+use Rattle.model.proofs.Memory.{length-filled}
 
 -- a slot past the last number reads 0, and so do the zeros there
 filled-slot : (m : ℕ) (l : List ℕ) (i : ℕ) → getD (filled m l) i 0 ≡ getD l i 0
@@ -24,9 +25,6 @@ filled-slot m l i = go l (m - length l) i
     go [] (suc m) (suc i) = go [] m i
     go (x ∷ l) m zero = refl
     go (x ∷ l) m (suc i) = go l m i
-
-filled-length : (m : ℕ) (l : List ℕ) → length l ≤ m → length (filled m l) ≡ m
-filled-length m l h = simp (length-append, length-replicate) (omega arith)
 
 -- edge memory xs of n edges
 module _ {xs : List ℕ} {n : ℕ} (h : Holds xs n) where
@@ -81,7 +79,7 @@ module _ {xs : List ℕ} {n at x : ℕ} (r : Insertable xs n at x) where
   -- above slot i the memory is as it will be
   pub insert-start : Mixed xs (inserted xs x) xs (n + 1)
   insert-start =
-      back-start (n + 1) (sym (filled-length (length xs) more (rw one-more (r .room))))
+      back-start (n + 1) (sym (length-filled (length xs) more (rw one-more (r .room))))
       (λ i h. rest (r .holds) more i (omega arith) (omega (arith, one-more)))
 
   module _ {cur : List ℕ} {i : ℕ} (m : Mixed xs (inserted xs x) cur (i + 1)) where
@@ -139,7 +137,7 @@ module _ {xs : List ℕ} {n at x : ℕ} (r : Removable xs n at x) where
   -- before slot i the memory is as it will be
   pub remove-start : Mixed (without xs x) xs xs at
   remove-start =
-      front-start at (filled-length (length xs) fewer (omega (arith, one-fewer, holds-within (r .holds))))
+      front-start at (length-filled (length xs) fewer (omega (arith, one-fewer, holds-within (r .holds))))
       (λ i h. moved (r .holds) fewer i i (removed-before stood (removed x (standing xs)) i h))
 
   module _ {cur : List ℕ} {i : ℕ} (m : Mixed (without xs x) xs cur i) where

@@ -1,23 +1,20 @@
 -- Edge memory as it is written: the edges that were put in stand there, and it passes check 3.
 use mathlib.Core.Path.{_≡_, refl, ap}
-use mathlib.Core.Bool.{true, false}
+use mathlib.Core.Bool.{true}
 use mathlib.Core.List.{List, [], _∷_, _++_, List·Memᴰ·head, List·Memᴰ·tail}
-use Prim.Native.Nat.{ℕ, zero, suc, _-_, _≤_, _<_}
+use Prim.Native.Nat.{ℕ, zero, suc, _-_, _≤_}
 use native.Mathlib.Omega.{arith}
-use lib.Dec.{eqb}
 use lib.ListN.{length, replicate, length-append, length-replicate}
-use Rattle.model.specs.Lists.{_∈_, none, next, Rising, filled}
+use Rattle.model.specs.Lists.{_∈_, Rising, filled}
 use Rattle.model.specs.Limits.{mostEdges}
-use Rattle.model.specs.Edges.{edge?, zeros?, risingEdges?, edgeMemory?, standing}
-use Rattle.model.proofs.Tests.{test-true, test-false, test-yields, test-eq, test-le, test-lt}
+use Rattle.model.specs.Edges.{edge?, risingEdges?, edgeMemory?, standing}
+use Rattle.model.proofs.Tests.{test-true, test-yields, test-le}
 use Rattle.model.proofs.Edges.{test-edge}
+use Rattle.model.proofs.Zeros.{not-zero, rising-zeros}
 
 -- an edge has a label
 pub edge-least : (vertices x : ℕ) → edge? vertices x ≡ true → 256 ≤ x
 edge-least vertices x e = omega (arith, (test-yields (test-edge vertices x) e) .label-low)
-
-not-zero : (x : ℕ) → 1 ≤ x → eqb x 0 ≡ false
-not-zero x h = test-false (test-eq x 0) (λ e. omega arith)
 
 pub length-filled : (m : ℕ) (l : List ℕ) → length l ≤ m → length (filled m l) ≡ m
 length-filled m l h = simp (length-append, length-replicate) (omega arith)
@@ -32,27 +29,9 @@ standing-zeros (x ∷ l) k f =
 pub standing-filled : (m : ℕ) (l : List ℕ) → ((x : ℕ) → x ∈ l → 1 ≤ x) → standing (filled m l) ≡ l
 standing-filled m l f = standing-zeros l (m - length l) f
 
-zeros-zeros : (k : ℕ) → zeros? (replicate k 0) ≡ true
-unfolding zeros?
-zeros-zeros zero = refl
-zeros-zeros (suc k) = zeros-zeros k
-
-module _ (vertices k : ℕ) where
-  rising-zeros : {l : List ℕ} (prev : ℕ) → Rising l → ((x : ℕ) → x ∈ l → (prev < x) × (edge? vertices x ≡ true))
-      → risingEdges? vertices prev (l ++ replicate k 0) ≡ true
-  unfolding risingEdges?
-  rising-zeros prev none f = none-left k
-    where
-      none-left : (k : ℕ) → risingEdges? vertices prev (replicate k 0) ≡ true
-      none-left zero = refl
-      none-left (suc k) = zeros-zeros k
-  rising-zeros prev (next {x = x} h s) f =
-      let (a, b) = f x (List·Memᴰ·head refl) in
-      rw (not-zero x (omega arith), test-true (test-lt prev x) a, b) (rising-zeros x s (λ z m. (h z m, f z (List·Memᴰ·tail m) .1)))
-
 pub filled-memory : (vertices m : ℕ) (l : List ℕ) → length l ≤ m → m ≤ mostEdges → Rising l → ((x : ℕ) → x ∈ l → edge? vertices x ≡ true)
     → edgeMemory? vertices (filled m l) ≡ true
-unfolding edgeMemory?
+unfolding edgeMemory? risingEdges?
 filled-memory vertices m l h k s f =
     rw (length-filled m l h, test-true (test-le m mostEdges) k)
-    (rising-zeros vertices (m - length l) 0 s (λ x e. (omega (arith, edge-least vertices x (f x e)), f x e)))
+    (rising-zeros (edge? vertices) (m - length l) 0 s (λ x e. (omega (arith, edge-least vertices x (f x e)), f x e)))

@@ -1,5 +1,5 @@
 -- Laws of the level search's reply: it is document 01's, it goes on from level to level, and yes and no are right about walks.
-use mathlib.Core.Path.{_≡_, refl, sym, ap, subst}
+use mathlib.Core.Path.{_≡_, refl, ap, subst}
 use mathlib.Core.Logic.{⊎-elim, _≢_}
 use mathlib.Core.Bool.{Bool, true, false}
 use mathlib.Core.List.{List, [], _∷_, List·Memᴰ·not-nil, List·Memᴰ·head}
@@ -12,9 +12,9 @@ use Rattle.model.specs.Lists.{_∈_, mem?, empty?}
 use Rattle.model.specs.Limits.{mostVertices, mostLongest}
 use Rattle.model.specs.Edges.{Graph}
 use Rattle.model.specs.Walks.{Runs}
-use Rattle.model.specs.Levels.{state, states, leads?, led?, Stage, grow, stage, level, Reply, Yes, No, Spent, Refused, replyAt, replyFrom, levelReply, Quiet, Told, found, ended, stopped, isYes?, runs?}
-use Rattle.model.proofs.Tests.{Tests, test-mem, test-dec}
-use Rattle.model.proofs.Levels.{state-zero, Met, level-runs, level-all, level-size, fresh-size}
+use Rattle.model.specs.Levels.{state, states, leads?, led?, Stage, grow, stage, level, Reply, Yes, No, Spent, replyAt, replyFrom, levelReply, Quiet, Told, found, ended, stopped, isYes?, runs?}
+use Rattle.model.proofs.Tests.{Tests, test-true, test-false, test-dec, test-T, test-mem}
+use Rattle.model.proofs.Levels.{state-zero, level-runs, level-all, level-size, fresh-size}
 
 pub empty-out : (l : List ℕ) → T (empty? l) → (x : ℕ) → ¬ (x ∈ l)
 empty-out [] t x m = List·Memᴰ·not-nil m
@@ -28,14 +28,6 @@ some : (l : List ℕ) → ¬ T (empty? l) → 1 ≤ length l
 some [] h = absurd (h tt)
 some (x ∷ l) h = omega arith
 
-is-true : (b : Bool) → T b → b ≡ true
-is-true true t = refl
-is-true false t = absurd t
-
-is-false : (b : Bool) → ¬ T b → b ≡ false
-is-false true n = absurd (n tt)
-is-false false n = refl
-
 -- ---- how the reply goes on from one level to the next
 
 module _ (g : Graph) (l : List ℕ) (s t n c : ℕ) where
@@ -44,20 +36,20 @@ module _ (g : Graph) (l : List ℕ) (s t n c : ℕ) where
   reply-step = refl
 
   has : t ∈ level g l s (suc c) → mem? (state t 0) (level g l s (suc c)) ≡ true
-  has m = is-true _ ((test-mem (state t 0) (level g l s (suc c))) .passes (rw (state-zero t) m))
+  has m = test-true (test-mem (state t 0) (level g l s (suc c))) (rw (state-zero t) m)
 
   lacks : ¬ (t ∈ level g l s (suc c)) → mem? (state t 0) (level g l s (suc c)) ≡ false
-  lacks d = is-false _ (λ h. d (rw (state-zero t) at ((test-mem (state t 0) (level g l s (suc c))) .yields h)))
+  lacks d = test-false (test-mem (state t 0) (level g l s (suc c))) (λ m. d (rw (state-zero t) at m))
 
   pub reply-yes : t ∈ level g l s (suc c) → replyFrom g l t (suc n) c (stage g l s c) ≡ Yes (suc c)
   reply-yes m = rw (reply-step, has m) refl
 
   pub reply-no : ((z : ℕ) → ¬ (z ∈ level g l s (suc c))) → replyFrom g l t (suc n) c (stage g l s c) ≡ No (suc c)
-  reply-no d = rw (reply-step, lacks (d t), is-true (empty? (level g l s (suc c))) (empty-in (level g l s (suc c)) d)) refl
+  reply-no d = rw (reply-step, lacks (d t), test-true (test-T (empty? (level g l s (suc c)))) (empty-in (level g l s (suc c)) d)) refl
 
   pub reply-on : {z : ℕ} → ¬ (t ∈ level g l s (suc c)) → z ∈ level g l s (suc c)
       → replyFrom g l t (suc n) c (stage g l s c) ≡ replyFrom g l t n (suc c) (stage g l s (suc c))
-  reply-on {z} d m = rw (reply-step, lacks d, is-false (empty? (level g l s (suc c))) (λ e. empty-out (level g l s (suc c)) e z m)) refl
+  reply-on {z} d m = rw (reply-step, lacks d, test-false (test-T (empty? (level g l s (suc c)))) (λ e. empty-out (level g l s (suc c)) e z m)) refl
 
 -- ---- what the reply says
 

@@ -61,6 +61,11 @@ pub by-test : {A P : Type 0} {b : Bool} (Q : A → Type 0) → Tests b P → {x 
 by-test {b = true} Q p f g = f (p .yields tt)
 by-test {b = false} Q p f g = g (p .passes)
 
+-- what follows either way
+pub both-ways : {A : Type 0} (b : Bool) → (b ≡ true → A) → (b ≡ false → A) → A
+both-ways true f g = f refl
+both-ways false f g = g refl
+
 -- of a test that is known only by its statement
 pub test-T : (b : Bool) → Tests b (T b)
 test-T b = record { yields = λ t. t; passes = λ t. t }

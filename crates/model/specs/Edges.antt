@@ -1,5 +1,5 @@
 -- What the station holds (document 01): the layout as a graph, the numbers of its edges, and edge memory.
-use mathlib.Core.Bool.{Bool, true, false, _&&_, cond}
+use mathlib.Core.Bool.{Bool, true, _&&_, cond}
 use mathlib.Core.List.{List, [], _∷_}
 use Prim.Native.Nat.{ℕ, _+_, _*_, _/_, _%_, _≤_}
 use lib.Dec.{eqb, ltb, leb}
@@ -47,13 +47,16 @@ unfoldable pub zeros? : List ℕ → Bool
 zeros? [] = true
 zeros? (x ∷ xs) = eqb x 0 && zeros? xs
 
--- edges that rise from above prev, "then zeros"
-unfoldable pub risingEdges? : ℕ → ℕ → List ℕ → Bool
-risingEdges? vertices prev [] = true
-risingEdges? vertices prev (x ∷ xs) =
+-- numbers that pass a test and rise from above prev, "then zeros"
+abbrev pub rising? : (ℕ → Bool) → ℕ → List ℕ → Bool
+rising? f prev [] = true
+rising? f prev (x ∷ xs) =
     let zeros = zeros? xs in
-    let more = ltb prev x && (edge? vertices x && risingEdges? vertices x xs) in
+    let more = ltb prev x && (f x && rising? f x xs) in
     cond (eqb x 0) zeros more
+
+unfoldable pub risingEdges? : ℕ → ℕ → List ℕ → Bool
+risingEdges? vertices prev xs = rising? (edge? vertices) prev xs
 
 -- what check 3 lets pass: at most 1,024 slots, of rising edges of this graph and then zeros. (A rising edge is above 0.)
 unfoldable pub edgeMemory? : ℕ → List ℕ → Bool

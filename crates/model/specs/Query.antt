@@ -1,12 +1,11 @@
 -- Index memory (check 12) and the question (query) of document 01, put to index memory of any content.
-use mathlib.Core.Path.{_≡_}
-use mathlib.Core.Bool.{Bool, true, false, _&&_, _||_, cond}
+use mathlib.Core.Bool.{Bool, _&&_, _||_, cond}
 use mathlib.Core.List.{List, [], _∷_, _++_}
 use Prim.Native.Nat.{ℕ, zero, suc, _/_, _%_, _<_}
 use lib.Dec.{eqb, ltb}
 use Rattle.model.specs.Lists.{_∈_, any?, mem?, upTo}
 use Rattle.model.specs.Limits.{mostLongest, hubUnit, ownerUnit, sideUnit}
-use Rattle.model.specs.Edges.{zeros?}
+use Rattle.model.specs.Edges.{rising?}
 use Rattle.model.specs.Patterns.{keyed?, own?}
 use Rattle.model.specs.Entries.{outEntry, inEntry}
 
@@ -36,13 +35,8 @@ code? longest code = let l = digits mostLongest code in keyed? longest l && own?
 unfoldable pub entry? : ℕ → ℕ → ℕ → Bool
 entry? vertices longest x = ltb (sideOf x) 2 && (ltb (ownerOf x) vertices && (ltb (hubOf x) vertices && code? longest (codeOf x)))
 
--- entries that rise from above prev, then zeros
 unfoldable pub risingEntries? : ℕ → ℕ → ℕ → List ℕ → Bool
-risingEntries? vertices longest prev [] = true
-risingEntries? vertices longest prev (x ∷ xs) =
-    let zeros = zeros? xs in
-    let more = ltb prev x && (entry? vertices longest x && risingEntries? vertices longest x xs) in
-    cond (eqb x 0) zeros more
+risingEntries? vertices longest prev xs = rising? (entry? vertices longest) prev xs
 
 -- what check 12 lets pass
 unfoldable pub indexMemory? : ℕ → ℕ → List ℕ → Bool

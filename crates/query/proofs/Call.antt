@@ -9,8 +9,10 @@ use Rattle.model.specs.Lists.{Rising}
 use Rattle.model.specs.Limits.{mostLongest}
 use Rattle.model.specs.Edges.{standing}
 use Rattle.model.specs.Patterns.{Keyed, minRepeat, foldedLength}
+use Rattle.model.specs.Query.{entry?}
 use Rattle.model.proofs.Patterns.{keyed-up, folded, folded-length, folded-take, repeat-short}
-use Rattle.model.proofs.IndexMemory.{Ordered, index-memory, entries-within, entries-front, answers-alone}
+use Rattle.model.proofs.Zeros.{Ordered, filled-within, filled-front}
+use Rattle.model.proofs.IndexMemory.{index-memory, answers-alone}
 use Rattle.calls.specs.Query.{queryCall, saying}
 use Rattle.calls.proofs.Query.{query-accepted}
 use Rattle.query.specs.Memory.{Says}
@@ -27,17 +29,17 @@ module _ {vertices longest s t : ℕ} {pattern index : List ℕ} {n : ℕ} (p : 
   pattern-front : take size pattern ≡ minRepeat pattern
   pattern-front = ap (λ (m : ℕ). take m pattern) is ∙ folded-take pattern keyed
 
-  memory : Ordered vertices longest 0 index (standing index)
+  memory : Ordered (entry? vertices longest) 0 index (standing index)
   memory = index-memory vertices longest index (scans vertices longest index (p .scanned) .0)
 
   count : n ≡ length (standing index)
   count = scans vertices longest index (p .scanned) .1
 
   pub part-index : n ≤ length index
-  part-index = omega (arith, count, entries-within memory)
+  part-index = omega (arith, count, filled-within (standing index) (memory .zeros))
 
   index-front : take n index ≡ standing index
-  index-front = ap (λ (m : ℕ). take m index) count ∙ entries-front memory
+  index-front = ap (λ (m : ℕ). take m index) count ∙ filled-front (standing index) (memory .zeros)
 
   pub askable : Rising (take n index) × (Keyed mostLongest (take size pattern) × ((s < 256) × (t < 256)))
   askable = rw (index-front, pattern-front) (memory .sorted, (folded keyed .keyed, (omega (arith, p), omega (arith, p))))
@@ -47,4 +49,4 @@ module _ {vertices longest s t : ℕ} {pattern index : List ℕ} {n : ℕ} (p : 
       let q : Says (standing index) (minRepeat pattern) s t b = rw (index-front, pattern-front) at says in
       query-accepted vertices longest s t pattern index b (p .is)
       (q .is vertices longest (p .vertices-small) (p .start-vertex) (p .destination-vertex) (record { rises = memory .sorted; valid = λ x m. memory .each x m .1 })
-      ∙ answers-alone memory (folded keyed .keyed) s t)
+      ∙ answers-alone memory vertices (folded keyed .keyed) s t)
