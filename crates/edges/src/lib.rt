@@ -51,14 +51,7 @@ pub fn is_edge(vertices: u32, x: u32) -> bool
 pub fn all_zero(s: &[u32]) -> bool
     ensures { λ r. ⌜ r ≡ zeros? (now (s .entry)) ⌝ }
 {
-    let mut i = 0;
-    while i < s.len() {
-        if s[i] != 0 {
-            return false;
-        }
-        i += 1;
-    }
-    true
+    skip(s, 0, 1) == s.len()
 }
 
 // Check 3, in one pass.
