@@ -1,18 +1,25 @@
--- The digits with one label more before the word.
-use mathlib.Core.Path.{_≡_, refl, _∙_}
-use mathlib.Core.List.{List, [], _∷_}
-use Prim.Native.Nat.{ℕ, zero, suc, _+_, _-_, _<_}
-use native.Mathlib.Nat.{not-suc-le-zero, le-of-suc-le-suc}
+-- The labels chosen so far, and the digits with one label more before them.
+use mathlib.Core.Path.{_≡_, ap, _∙_}
+use mathlib.Core.List.{List, _∷_, List·Memᴰ·head, List·Memᴰ·tail}
+use Prim.Native.Nat.{ℕ, suc, _+_, _-_, _≤_, _<_}
 use native.Mathlib.Omega.{arith}
-use lib.ListN.{length, drop, set, length-set}
-use Rattle.model.specs.Limits.{mostLongest}
-use Rattle.endings.specs.Endings.{Child}
+use lib.ListN.{length, take, drop, set, length-drop, length-set}
+use lib.Seq.{length-take-le, set-split, drop-at}
+use Rattle.model.specs.Lists.{_∈_}
+use Rattle.model.specs.Limits.{mostLabel, mostLongest}
+use Rattle.endings.specs.Endings.{wordOf, Chosen, Child}
+
+module _ {digits : List ℕ} {d longest : ℕ} (h : Chosen digits d longest) where
+  pub word-length : length (wordOf digits d) ≡ d
+  word-length = omega (arith, length-drop (mostLongest - d) digits, h .size, h .more, h .most)
+
+  pub child-labels : {c : ℕ} → c < 8 → (x : ℕ) → x ∈ suc c ∷ wordOf digits d → (1 ≤ x) × (x ≤ mostLabel)
+  child-labels k x (List·Memᴰ·head e) = (omega arith, omega arith)
+  child-labels k x (List·Memᴰ·tail m) = h .labels x m
 
 -- what stands from slot i on once x is stored there
-pub drop-set : (l : List ℕ) (i x : ℕ) → i < length l → drop i (set l i x) ≡ x ∷ drop (suc i) l
-drop-set [] i x h = absurd (not-suc-le-zero h)
-drop-set (y ∷ l) zero x h = refl
-drop-set (y ∷ l) (suc i) x h = drop-set l i x (le-of-suc-le-suc h)
+drop-set : (l : List ℕ) (i x : ℕ) → i < length l → drop i (set l i x) ≡ x ∷ drop (suc i) l
+drop-set l i x h = ap (drop i) (set-split l i x h) ∙ drop-at (take i l) (x ∷ drop (suc i) l) i (length-take-le i l (omega arith))
 
 pub child-set : (l : List ℕ) (d c : ℕ) → length l ≡ mostLongest → d < mostLongest → Child l d c (set l (3 - d) (c + 1))
 child-set l d c size h =

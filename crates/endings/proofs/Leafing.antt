@@ -1,34 +1,32 @@
 -- The entries with one label before a word: staged for one label, and for each of them.
 use mathlib.Core.Path.{_≡_, refl, sym, ap, subst, _∙_}
 use mathlib.Core.Bool.{true, false}
-use mathlib.Core.Logic.{_⊎_, inl, inr, ⊎-elim, _↔_}
-use mathlib.Core.List.{List, [], _∷_, List·Memᴰ·head, List·Memᴰ·tail}
+use mathlib.Core.Logic.{inl, inr, ⊎-elim, _↔_}
+use mathlib.Core.List.{List, [], _∷_}
 use Prim.Native.Nat.{ℕ, suc, _+_, _-_, _≤_, _<_}
 use native.Mathlib.Omega.{arith}
-use lib.ListN.{length, take, drop, length-drop}
+use lib.ListN.{take, drop, length-drop}
 use lib.Seq.{take-all}
-use Rattle.model.specs.Lists.{_∈_}
-use Rattle.model.specs.Limits.{mostVertices, mostLongest, mostLabel, leastWork, hubUnit}
-use Rattle.model.specs.Patterns.{Keyed, Pattern, own?, code}
+use Rattle.model.specs.Limits.{mostVertices, mostLongest}
+use Rattle.model.specs.Patterns.{Keyed, own?, code}
 use Rattle.model.specs.Hubs.{Picked}
-use Rattle.model.specs.Suffixes.{With, Leaf, Some}
+use Rattle.model.specs.Suffixes.{Leaf}
 use Rattle.model.proofs.Tests.{test-yields, test-fails}
-use Rattle.model.proofs.Patterns.{test-own, code-below, keyed-up}
+use Rattle.model.proofs.Patterns.{test-own, code-below}
 use Rattle.model.proofs.Hubs.{picked-as}
-use Rattle.model.proofs.Suffixes.{some-none, some-more, leaves-apart}
-use Rattle.rows.specs.Rows.{On, Next, Step}
-use Rattle.rows.proofs.Rows.{next-none}
-use Rattle.steps.specs.Steps.{Trail}
+use Rattle.model.proofs.Suffixes.{some-none, some-up, some-more, leaves-apart}
+use Rattle.rows.specs.Rows.{Next}
 use Rattle.steps.proofs.Trails.{trail-edge, edge-trail}
 use Rattle.closure.specs.Closing.{Plus}
 use Rattle.closure.proofs.Plus.{plus-as}
 use Rattle.staging.specs.Stage.{Outcome}
-use Rattle.staging.proofs.Adding.{adds-none, outcome-as, outcome-then, over-as}
+use Rattle.staging.proofs.Adding.{adds-none, outcome-as, outcome-then, outcome-over}
 use Rattle.relation.specs.Relation.{Led}
 use Rattle.hubs.specs.Pattern.{Spared, Either, out, into, Patternable, Patterned}
 use Rattle.hubs.proofs.Patterning.{spared-then, spared-row}
-use Rattle.endings.specs.Endings.{Leads, Picks, wordOf, baseOf, Chosen, Parent, Children, Child, Level, Leafed, Leaved}
-use Rattle.endings.proofs.Picks.{one-pattern, no-picks}
+use Rattle.endings.specs.Endings.{Leads, Picks, wordOf, baseOf, Child, Level, Leafed, Leaved}
+use Rattle.endings.proofs.Picks.{one-pattern, child-none}
+use Rattle.endings.proofs.Children.{word-length, child-labels}
 
 pub spared-none : (w : List ℕ) → Spared w w
 spared-none w = record { len = refl; same = λ k h l m. refl }
@@ -46,23 +44,16 @@ module _ {edges slots digits w : List ℕ} {d longest room cnt c : ℕ} (l : Lev
 
   -- ---- no vertex from which the pattern can be spelled
   pub leafed-empty : {q : ℕ} → Next w (baseOf d + c) 0 q → q ≡ mostVertices → Leafed edges digits w d longest room cnt c w cnt
-  leafed-empty h e = leafed-none (λ x p. no-picks (suc c ∷ word) dead [] x (p .holds))
-    where
-      dead : (a t : ℕ) → a < mostVertices → Trail edges a (suc c ∷ word) t → ⊥
-      dead a t k trail = next-none h refl e a k (l .children .all c a t small k trail)
+  leafed-empty h e = leafed-none (λ x p. child-none (l .children) small h e [] x (p .holds))
 
   -- ---- the pattern
   pub keyed : Keyed longest (suc c ∷ word)
   keyed =
       record {
         long = omega arith;
-        short = omega (arith, length-drop (mostLongest - d) digits, l .chosen .size, l .chosen .more, l .chosen .most);
-        labels = labels;
+        short = omega (arith, word-length (l .chosen), l .chosen .more);
+        labels = child-labels (l .chosen) small;
       }
-    where
-      labels : (x : ℕ) → x ∈ suc c ∷ word → (1 ≤ x) × (x ≤ mostLabel)
-      labels x (List·Memᴰ·head e) = (omega arith, omega arith)
-      labels x (List·Memᴰ·tail m) = l .chosen .labels x m
 
   -- the labels of the pattern stand at the end of the child's digits
   pub part-word : {next : List ℕ} → Child digits d c next → take (4 - (3 - d)) (drop (3 - d) next) ≡ suc c ∷ word
@@ -176,11 +167,8 @@ module _ {edges slots digits w : List ℕ} {d longest room cnt : ℕ} (l : Level
       record {
         spared = v .spared;
         quiet = v .quiet;
-        outcome = record { len = v .outcome .len; done = λ m. absurd (omega arith); over = λ m. over-as (v .outcome .over m) wider };
+        outcome = outcome-over k (v .outcome .over k) (λ e. some-up h);
       }
-    where
-      wider : (e : ℕ) → Some c (Leaf longest (Picks edges) (wordOf digits d)) e → Some 8 (Leaf longest (Picks edges) (wordOf digits d)) e
-      wider e s = record { which = s .which; small = omega (arith, s .small); holds = s .holds }
 
 pub leaved-all : {edges digits w w′ : List ℕ} {d longest room cnt c n : ℕ} → c ≤ 8 → 8 ≤ c → Leaved edges digits w d longest room cnt c w′ n
     → Leaved edges digits w d longest room cnt 8 w′ n

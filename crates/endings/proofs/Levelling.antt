@@ -1,34 +1,31 @@
 -- The rows of one word filled: where it leads, and the vertices from which one label more and then the word can be spelled.
-use mathlib.Core.Path.{_≡_, sym, ap, _∙_}
+use mathlib.Core.Path.{_≡_, sym, _∙_}
 use mathlib.Core.List.{List, _∷_}
-use mathlib.Core.Logic.{_⊎_, inl, inr, ⊎-elim}
-use Prim.Native.Nat.{ℕ, suc, _+_, _-_, _*_, _/_, _≤_, _<_}
+use mathlib.Core.Logic.{_⊎_, ⊎-elim}
+use Prim.Native.Nat.{ℕ, suc, _+_, _-_, _/_, _≤_, _<_}
 use native.Mathlib.Omega.{arith}
-use lib.ListN.{length, getD, take, drop, length-drop}
+use lib.ListN.{getD, take, drop}
 use lib.Seq.{take-all}
-use Rattle.model.specs.Limits.{mostVertices, mostLongest, leastWork}
-use Rattle.rows.specs.Rows.{cell, On, Step}
-use Rattle.rows.specs.Room.{parentRows, childRows, rootRow, tempRows}
-use Rattle.rows.proofs.Rows.{same-row}
-use Rattle.steps.specs.Steps.{Trail, Word, Sourced, Keeps, Among, Parented, Branchable, Branched}
+use Rattle.model.specs.Limits.{mostVertices, leastWork}
+use Rattle.rows.specs.Rows.{cell, On}
+use Rattle.rows.specs.Room.{parentRows, tempRows}
+use Rattle.steps.specs.Steps.{Trail, Word, Sourced, Among, Parented, Branchable, Branched}
 use Rattle.steps.proofs.Trails.{trail-edge}
 use Rattle.steps.proofs.Kept.{keeps-cell}
 use Rattle.staging.proofs.Adding.{outcome-since}
 use Rattle.hubs.proofs.Patterning.{spared-row}
-use Rattle.endings.specs.Endings.{wordOf, baseOf, Node, Held, Level, Leaved, Levelled}
+use Rattle.endings.specs.Endings.{wordOf, baseOf, Node, Level, Leaved, Levelled}
+use Rattle.endings.proofs.Children.{word-length}
 
 module _ {edges slots digits w : List ℕ} {d starts longest room cnt : ℕ} (n : Node edges slots digits w d starts longest room cnt) where
   abbrev word : List ℕ
   word = wordOf digits d
 
-  pub word-length : length word ≡ d
-  word-length = omega (arith, length-drop (mostLongest - d) digits, n .chosen .size, n .chosen .more, n .chosen .most)
-
   pub digits-word : take (4 - (4 - d)) (drop (4 - d) digits) ≡ word
-  digits-word = take-all (4 - (4 - d)) word (omega (arith, word-length))
+  digits-word = take-all (4 - (4 - d)) word (omega (arith, word-length (n .chosen)))
 
   pub is-word : Word word
-  is-word = record { short = omega (arith, word-length, n .chosen .more, n .chosen .most); labels = n .chosen .labels }
+  is-word = record { short = omega (arith, word-length (n .chosen), n .chosen .more, n .chosen .most); labels = n .chosen .labels }
 
   pub digits-ready : Word (take (4 - (4 - d)) (drop (4 - d) digits)) × Sourced edges (take (4 - (4 - d)) (drop (4 - d) digits)) w starts
   digits-ready = rw digits-word (is-word, n .sourced)

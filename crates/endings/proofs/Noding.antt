@@ -1,24 +1,21 @@
 -- The entries with more labels before a word, child by child.
-use mathlib.Core.Path.{_≡_, refl, sym, subst, _∙_}
-use mathlib.Core.List.{List, _∷_, List·Memᴰ·head, List·Memᴰ·tail}
-use mathlib.Core.Logic.{_⊎_, inl, inr, ⊎-elim, _↔_}
-use Prim.Native.Nat.{ℕ, suc, _+_, _-_, _*_, _/_, _≤_, _<_}
+use mathlib.Core.Path.{_≡_, refl, subst, _∙_}
+use mathlib.Core.List.{List, _∷_, _++_}
+use mathlib.Core.Logic.{_⊎_, inl, ⊎-elim, ⊎-map}
+use Prim.Native.Nat.{ℕ, suc, _+_, _*_, _≤_, _<_}
 use native.Mathlib.Omega.{arith}
 use native.Mathlib.Nat.{le-refl}
-use lib.ListN.{length, getD}
-use Rattle.model.specs.Lists.{_∈_}
-use Rattle.model.specs.Limits.{mostVertices, mostLabel, mostLongest, leastWork}
+use Rattle.model.specs.Limits.{mostVertices}
 use Rattle.model.specs.Suffixes.{Beyond, Leaf, Branch, Some}
-use Rattle.model.proofs.Suffixes.{some-none, some-more, beyond-parts, beyond-long, beyond-none, branches-apart, parts-apart}
-use Rattle.rows.specs.Rows.{cell, On, Next, Step}
-use Rattle.rows.proofs.Rows.{same-row, next-none}
-use Rattle.steps.specs.Steps.{Trail}
+use Rattle.model.proofs.Suffixes.{some-none, some-up, some-more, beyond-parts, beyond-long, beyond-none, branches-apart, parts-apart}
+use Rattle.rows.specs.Rows.{cell, Next, Step}
+use Rattle.rows.proofs.Rows.{same-row}
 use Rattle.staging.specs.Stage.{Outcome}
-use Rattle.staging.proofs.Adding.{outcome-as, outcome-then, over-as}
-use Rattle.endings.specs.Endings.{Picks, wordOf, baseOf, Chosen, Node, Held, Noded, Children, Child, Levelled}
-use Rattle.endings.proofs.Picks.{one-pattern, no-picks}
+use Rattle.staging.proofs.Adding.{outcome-as, outcome-then, outcome-over}
+use Rattle.endings.specs.Endings.{Picks, wordOf, baseOf, Node, Held, Noded, Children, Child, Levelled}
+use Rattle.endings.proofs.Picks.{one-pattern, child-none}
+use Rattle.endings.proofs.Children.{word-length, child-labels}
 use Rattle.endings.proofs.Leafing.{outcome-none}
-use Rattle.endings.proofs.Levelling.{word-length}
 
 held-then : {w w′ w″ : List ℕ} {d d′ : ℕ} → d ≤ d′ → Held w w′ d → Held w′ w″ d′ → Held w w″ d
 held-then h f g =
@@ -59,11 +56,7 @@ module _ {edges slots digits w₀ : List ℕ} {d starts longest room cnt : ℕ} 
       record {
         held = v .held;
         quiet = v .quiet;
-        outcome = record {
-          len = v .outcome .len;
-          done = λ m. absurd (omega arith);
-          over = λ m. over-as (v .outcome .over m) (λ e s. beyond-parts word e .0 (inl s));
-        };
+        outcome = outcome-over h (v .outcome .over h) (λ e s. beyond-parts word e .0 (inl s));
       }
 
   -- no pattern has more labels
@@ -79,7 +72,7 @@ module _ {edges slots digits w₀ : List ℕ} {d starts longest room cnt : ℕ} 
       }
     where
       none : (e : ℕ) → Branches 8 e → ⊥
-      none e s = beyond-long (suc (s .which) ∷ word) e (omega (arith, word-length p)) (s .holds)
+      none e s = beyond-long (suc (s .which) ∷ word) e (omega (arith, word-length (p .chosen))) (s .holds)
 
   -- ---- child by child
   module _ (room-left : n₁ ≤ room) where
@@ -102,16 +95,8 @@ module _ {edges slots digits w₀ : List ℕ} {d starts longest room cnt : ℕ} 
           record {
             held = held-then (le-refl d) (v .held) (g .held);
             quiet = g .quiet;
-            outcome = record {
-              len = both .len;
-              done = λ m. absurd (omega arith);
-              over = λ m. over-as (both .over m) (λ e s. beyond-parts word e .0 (wider e s));
-            };
+            outcome = outcome-over k (both .over k) (λ e s. beyond-parts word e .0 (⊎-map (λ a. a) (some-up h) s));
           }
-        where
-          wider : (e : ℕ) → Leaves e ⊎ Branches c e → Leaves e ⊎ Branches 8 e
-          wider e (inl s) = inl s
-          wider e (inr s) = inr (record { which = s .which; small = omega (arith, s .small); holds = s .holds })
 
       pub noded-all : c ≤ 8 → 8 ≤ c → Noded edges digits w₀ d longest room cnt w n
       noded-all h k =
@@ -133,11 +118,11 @@ module _ {edges slots digits w₀ : List ℕ} {d starts longest room cnt : ℕ} 
             outcome = outcome-as (g .outcome) (λ e s. some-more c e .0 (inl s)) back;
           }
         where
-          dead : (a t : ℕ) → a < mostVertices → Trail edges a (suc c ∷ word) t → ⊥
-          dead a t k trail = next-none x refl (omega (arith, x .high)) a k (g .children .all c a t h k trail)
+          none : (v : List ℕ) (e : ℕ) → Picks edges (v ++ suc c ∷ word) e → ⊥
+          none = child-none (g .children) h x (omega (arith, x .high))
 
           back : (e : ℕ) → Branches (c + 1) e → Branches c e
-          back e s = ⊎-elim (λ b. b) (λ b. absurd (beyond-none (suc c ∷ word) (no-picks (suc c ∷ word) dead) e b)) (some-more c e .1 s)
+          back e s = ⊎-elim (λ b. b) (λ b. absurd (beyond-none (suc c ∷ word) none e b)) (some-more c e .1 s)
 
       -- a child that goes on
       module _ (h : c < 8) {next : List ℕ} (f : Child digits d c next) {d′ : ℕ} (q : d′ ≡ suc d) (fits : n ≤ room) where
@@ -148,7 +133,7 @@ module _ {edges slots digits w₀ : List ℕ} {d starts longest room cnt : ℕ} 
         child-node deep =
             record {
               ready = p .ready;
-              chosen = record { size = f .size; more = omega arith; most = p .chosen .most; labels = λ x m. labels x (rw next-word at m) };
+              chosen = record { size = f .size; more = omega arith; most = p .chosen .most; labels = λ x m. child-labels (p .chosen) h x (rw next-word at m) };
               sourced = record {
                 long = omega (arith, g .held .len, v .held .len, p .stocked .there);
                 least = omega arith;
@@ -159,10 +144,6 @@ module _ {edges slots digits w₀ : List ℕ} {d starts longest room cnt : ℕ} 
               quiet = g .quiet;
               stocked = record { count = fits; there = omega (arith, g .held .len, v .held .len, p .stocked .there) };
             }
-          where
-            labels : (x : ℕ) → x ∈ suc c ∷ word → (1 ≤ x) × (x ≤ mostLabel)
-            labels x (List·Memᴰ·head e) = (omega arith, omega arith)
-            labels x (List·Memᴰ·tail m) = p .chosen .labels x m
 
         pub going-more : {w′ : List ℕ} {r : ℕ} → Noded edges next w d′ longest room n w′ r → Going edges digits w₁ d longest room n₁ w′ r (c + 1)
         going-more {w′} {r} z =

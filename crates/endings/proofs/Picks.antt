@@ -1,20 +1,19 @@
 -- The entries that a pattern picks by where it leads: an entry has one pattern, a word that leads nowhere ends none, and over a graph they
 -- are the determined ones.
-use mathlib.Core.Path.{_≡_, refl, sym, _∙_}
+use mathlib.Core.Path.{_≡_, refl}
 use mathlib.Core.Bool.{true}
-use mathlib.Core.Logic.{_⊎_, inl, inr, ⊎-elim, _↔_}
+use mathlib.Core.Logic.{inl, inr, ⊎-elim, _↔_}
 use mathlib.Core.List.{List, [], _∷_, _++_, List·Memᴰ·head}
-use Prim.Native.Nat.{ℕ, _+_, _≤_, _<_}
+use Prim.Native.Nat.{ℕ, suc, _+_, _≤_, _<_}
 use native.Mathlib.Nat.{not-suc-le-zero}
 use native.Mathlib.Omega.{arith}
 use lib.ListN.{length}
 use Rattle.model.specs.Lists.{_∈_, upTo}
-use Rattle.model.specs.Limits.{mostVertices, mostLongest, hubUnit}
+use Rattle.model.specs.Limits.{mostVertices, mostLongest}
 use Rattle.model.specs.Edges.{Graph, edge?, edgeNumber}
 use Rattle.model.specs.Patterns.{Pattern, code}
 use Rattle.model.specs.Walks.{Spells, Runs, once, more}
 use Rattle.model.specs.Entries.{IsEntry, entryOf}
-use Rattle.model.specs.Hubs.{Picked}
 use Rattle.model.specs.Suffixes.{With, Beyond}
 use Rattle.model.proofs.Tests.{test-yields}
 use Rattle.model.proofs.Edges.{test-edge, edge-fields}
@@ -22,11 +21,13 @@ use Rattle.model.proofs.Walks.{runs-to}
 use Rattle.model.proofs.Patterns.{code-below, code-inj}
 use Rattle.model.proofs.Hubs.{picked-as, pattern-picked, entry-pattern, OfPattern, runs-from}
 use Rattle.model.proofs.Suffixes.{all-beyond}
+use Rattle.rows.specs.Rows.{Next}
+use Rattle.rows.proofs.Rows.{next-none}
 use Rattle.steps.specs.Steps.{Trail}
 use Rattle.steps.proofs.Trails.{trail-cut, trail-to, trail-spells, spells-trail}
 use Rattle.closure.specs.Closing.{Plus, one}
-use Rattle.closure.proofs.Plus.{plus-from, plus-as}
-use Rattle.endings.specs.Endings.{Leads, Picks}
+use Rattle.closure.proofs.Plus.{plus-from}
+use Rattle.endings.specs.Endings.{Leads, Picks, Children}
 
 -- ---- an entry has one pattern
 
@@ -66,9 +67,14 @@ module _ {edges : List ℕ} (w : List ℕ) (dead : (a t : ℕ) → a < mostVerti
   no-plus : (v : List ℕ) {a b : ℕ} → Plus (Leads edges (v ++ w)) a b → ⊥
   no-plus v p = plus-from (λ a. ⊥) (λ a b h. let (m, x, y) = trail-cut v (h .trail) in dead m b (trail-to x (h .from)) y) p
 
-  pub no-picks : (v : List ℕ) (e : ℕ) → Picks edges (v ++ w) e → ⊥
+  no-picks : (v : List ℕ) (e : ℕ) → Picks edges (v ++ w) e → ⊥
   no-picks v e (inl p) = no-plus v (p .related)
   no-picks v e (inr p) = no-plus v (p .related)
+
+-- where the row of one label more is empty
+pub child-none : {edges word w : List ℕ} {base c q : ℕ} → Children edges word w base → c < 8 → Next w (base + c) 0 q → q ≡ mostVertices
+    → (v : List ℕ) (e : ℕ) → Picks edges (v ++ suc c ∷ word) e → ⊥
+child-none {word = word} {c = c} f h n e = no-picks (suc c ∷ word) (λ a t k trail. next-none n refl e a k (f .all c a t h k trail))
 
 -- ---- over a graph
 

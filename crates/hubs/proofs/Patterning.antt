@@ -12,7 +12,7 @@ use Rattle.rows.proofs.Rows.{same-row}
 use Rattle.closure.specs.Closing.{Plus, Closable, Closed}
 use Rattle.closure.proofs.Plus.{plus-then, plus-from, plus-as}
 use Rattle.staging.specs.Stage.{Hubbed, Outward, Stageable, Transits, Stages}
-use Rattle.staging.proofs.Adding.{outcome-as, outcome-kept, outcome-since, outcome-then, over-as}
+use Rattle.staging.proofs.Adding.{outcome-as, outcome-kept, outcome-since, outcome-then, outcome-over}
 use Rattle.relation.specs.Relation.{Led, Forth}
 use Rattle.clearing.specs.Clearing.{Wipeable, Wiped}
 use Rattle.hubs.specs.Pattern.{Spared, Sided, Either, out, into, Patternable, Patterned}
@@ -63,7 +63,7 @@ module _ {w w₁ : List ℕ} {domain code slots cnt r : ℕ} (p : Stageable w do
   sides-over h =
       record {
         kept = s .kept;
-        outcome = record { len = s .outcome .len; done = λ l. absurd (omega arith); over = λ l. over-as (s .outcome .over l) (λ e. inl) };
+        outcome = outcome-over h (s .outcome .over h) (λ e. inl);
       }
 
   pub sides-all : {w₂ : List ℕ} {r′ : ℕ} → r ≤ slots → Stages w₁ (Hubbed w₁ 1 code) slots r w₂ r′ → Stages w (Sided w code) slots cnt w₂ r′

@@ -2,7 +2,7 @@
 use mathlib.Core.Path.{_≡_, refl, sym, ap, subst, _∙_}
 use mathlib.Core.Logic.{_⊎_, inl, inr, ⊎-elim, _↔_}
 use mathlib.Core.List.{List, [], _∷_, _++_, append-assoc, List·Memᴰ·head, Memᴰ·append-right}
-use Prim.Native.Nat.{ℕ, zero, suc, _+_, _≤_, _<_}
+use Prim.Native.Nat.{ℕ, zero, suc, _+_, _≤_}
 use native.Mathlib.Nat.{not-suc-le-zero}
 use native.Mathlib.Decide.{decLt}
 use native.Mathlib.Omega.{arith}
@@ -15,9 +15,12 @@ use Rattle.model.specs.Suffixes.{With, Beyond, Leaf, Branch, Some}
 pub some-none : {G : ℕ → ℕ → Type 0} (e : ℕ) → Some 0 G e → ⊥
 some-none e s = omega (arith, s .small)
 
+pub some-up : {G : ℕ → ℕ → Type 0} {m n e : ℕ} → m ≤ n → Some m G e → Some n G e
+some-up h s = record { which = s .which; small = omega (arith, s .small); holds = s .holds }
+
 pub some-more : {G : ℕ → ℕ → Type 0} (n e : ℕ) → (Some n G e ⊎ G n e) ↔ Some (n + 1) G e
 some-more {G} n e = (
-  λ s. ⊎-elim (λ a. record { which = a .which; small = omega (arith, a .small); holds = a .holds }) (λ b. record { which = n; small = omega arith; holds = b }) s,
+  λ s. ⊎-elim (some-up (omega arith)) (λ b. record { which = n; small = omega arith; holds = b }) s,
   λ s. elim (decLt (s .which) n) [
     | yes h ↦ inl (record { which = s .which; small = h; holds = s .holds })
     | no h ↦ let q : s .which ≡ n = omega (arith, s .small) in inr (subst (λ (c : ℕ). G c e) q (s .holds))

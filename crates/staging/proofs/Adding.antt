@@ -36,7 +36,7 @@ module _ {w w′ : List ℕ} {k : ℕ} {P Q : ℕ → Type 0} where
         once = a .once;
       }
 
-  pub over-as : {slots : ℕ} → Over w k w′ slots P → ((e : ℕ) → P e → Q e) → Over w k w′ slots Q
+  over-as : {slots : ℕ} → Over w k w′ slots P → ((e : ℕ) → P e → Q e) → Over w k w′ slots Q
   over-as o f =
       record {
         len = o .len;
@@ -47,6 +47,10 @@ module _ {w w′ : List ℕ} {k : ℕ} {P Q : ℕ → Type 0} where
         is = f _ (o .is);
         fresh = o .fresh;
       }
+
+  -- more than fit
+  pub outcome-over : {r slots : ℕ} → slots < r → Over w k w′ slots P → ((e : ℕ) → P e → Q e) → Outcome w k w′ r slots Q
+  outcome-over h o f = record { len = o .len; done = λ l. absurd (omega arith); over = λ _. over-as o f }
 
   pub outcome-as : {r slots : ℕ} → Outcome w k w′ r slots P → ((e : ℕ) → P e → Q e) → ((e : ℕ) → Q e → P e) → Outcome w k w′ r slots Q
   outcome-as o f g = record { len = o .len; done = λ h. adds-as (o .done h) f g; over = λ h. over-as (o .over h) f }

@@ -15,7 +15,7 @@ use Rattle.rows.specs.Room.{pickedRow}
 use Rattle.rows.proofs.Rows.{next-as, same-row}
 use Rattle.staging.specs.Stage.{Adds}
 use Rattle.staging.specs.Hub.{Emits, Emittable, Emitted}
-use Rattle.staging.proofs.Adding.{adds-none, adds-as, adds-put, over-as, over-now}
+use Rattle.staging.proofs.Adding.{adds-none, adds-as, adds-put, over-now, outcome-over}
 
 -- k numbers are staged, with the entries of the owners before y, and y is the next vertex of row `picked`
 pub record Owners (w : List ℕ) (u side code slots cnt : ℕ) (w′ : List ℕ) (k y : ℕ) : Type 0 where
@@ -52,11 +52,7 @@ module _ {w : List ℕ} {u side code slots cnt : ℕ} (p : Emittable w u side co
     owners-over e =
         record {
           kept = a .kept;
-          outcome = record {
-            len = a .adds .len;
-            done = λ l. absurd (omega arith);
-            over = λ _. over-as (over-now (a .adds) _ new e) (wider h);
-          };
+          outcome = outcome-over (omega arith) (over-now (a .adds) _ new e) (wider h);
         }
 
     -- the entry of y is staged

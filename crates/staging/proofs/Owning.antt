@@ -14,7 +14,7 @@ use Rattle.rows.specs.Room.{pickedRow}
 use Rattle.rows.proofs.Rows.{same-row, beyond-kept}
 use Rattle.staging.specs.Stage.{Outward, Adds, Stageable, Transits, Stages}
 use Rattle.staging.specs.Hub.{Emittable, Free, OutOf}
-use Rattle.staging.proofs.Adding.{adds-none, adds-as, adds-put, adds-kept, over-as, over-now, outcome-as, outcome-since}
+use Rattle.staging.proofs.Adding.{adds-none, adds-as, adds-put, adds-kept, over-now, outcome-over, outcome-as, outcome-since}
 use Rattle.staging.proofs.Picking.{Alike, alike-back, alike-picked, step-as}
 use Rattle.staging.proofs.Passing.{Through, Placed, rows-kept, through-over, through-more}
 
@@ -140,7 +140,7 @@ module _ {w : List ℕ} {s code slots cnt : ℕ} {w′ : List ℕ} {k u : ℕ} (
   taken-over e =
       record {
         kept = a .kept;
-        outcome = record { len = a .adds .len; done = λ g. absurd (omega arith); over = λ _. over-as (over-now (a .adds) _ new e) (wider (omega arith)) };
+        outcome = outcome-over (omega arith) (over-now (a .adds) _ new e) (wider (omega arith));
       }
 
   -- the entry of u is staged, and row u struck out

@@ -11,7 +11,7 @@ use Rattle.rows.specs.Rows.{cell, On, Next}
 use Rattle.rows.specs.Room.{pickedRow}
 use Rattle.rows.proofs.Rows.{next-as, same-row}
 use Rattle.staging.specs.Stage.{Outcome, Stageable, Stages}
-use Rattle.staging.proofs.Adding.{adds-none, over-as, outcome-as, outcome-then}
+use Rattle.staging.proofs.Adding.{adds-none, outcome-over, outcome-as, outcome-then}
 
 -- e is an entry of a vertex below n
 pub record Under (P : ℕ → Type 0) (at : ℕ → ℕ) (n e : ℕ) : Type 0 where
@@ -88,7 +88,7 @@ module _ {w : List ℕ} {domain side code slots cnt : ℕ} (p : Stageable w doma
     through-over l =
         record {
           kept = kept;
-          outcome = record { len = turn .len; done = λ m. absurd (omega arith); over = λ _. over-as (turn .over l) (λ e x. x .entry) };
+          outcome = outcome-over l (turn .over l) (λ e x. x .entry);
         }
 
     pub through-more : k′ ≤ slots → {q : ℕ} → Next w₂ domain (u + 1) q → Through w P at slots cnt w₂ k′ q
