@@ -1,5 +1,5 @@
 -- Step rows emptied one after another, and a row that gains the vertices from 0 on.
-use mathlib.Core.Path.{_≡_, refl, sym, _∙_}
+use mathlib.Core.Path.{_≡_, refl, _∙_}
 use mathlib.Core.Logic.{_⊎_, inl, inr, ⊎-elim}
 use mathlib.Core.List.{List}
 use Prim.Native.Nat.{ℕ, _+_, _≤_, _<_}
@@ -8,14 +8,10 @@ use native.Mathlib.Decide.{ℕ-discrete, decLt}
 use Rattle.model.specs.Limits.{mostVertices}
 use Rattle.rows.specs.Rows.{On, Becomes, Next, Step}
 use Rattle.rows.specs.Room.{rootRow}
-use Rattle.rows.proofs.Rows.{row-kept}
+use Rattle.rows.proofs.Rows.{step-kept, steps-kept}
 use Rattle.steps.specs.Steps.{Keeps}
 use Rattle.steps.proofs.Kept.{keeps-none, keeps-as, keeps-then, keeps-becomes, keeps-cell, gains-none, gains-more, gains-all}
 use Rattle.clearing.specs.Clearing.{Wipeable, Wiped, Rooted}
-
--- a change of another row keeps the steps from a
-step-kept : {w w′ : List ℕ} {r : ℕ} {P : ℕ → Type 0} → Becomes w w′ r P → {a b : ℕ} → (a ≡ r → ⊥) → Step w′ a b → Step w a b
-step-kept c {a} {b} n s = record { from = s .from; to = s .to; on = sym (row-kept c a n b (s .to)) ∙ s .on }
 
 -- ---- the step rows
 
@@ -33,7 +29,7 @@ module _ {w w′ : List ℕ} {p : ℕ} (h : Emptied w w′ p) where
     keeps = keeps-then (h .keeps) (keeps-becomes l c);
     late = λ a b s. elim (ℕ-discrete a p) [
       | yes e ↦ absurd (c .only b (s .to) (rw e at (s .on)))
-      | no n ↦ let old = h .late a b (step-kept c n s) in (omega (arith, old .0), old .1)
+      | no n ↦ let old = h .late a b (step-kept c n b .0 s) in (omega (arith, old .0), old .1)
     ];
   }
 
@@ -67,7 +63,7 @@ pub rooted : {w w₁ w₂ w₃ : List ℕ} {n : ℕ} → n ≤ mostVertices → 
     → Becomes w₂ w₃ rootRow (λ k. On w₂ rootRow k ⊎ (k < n)) → Rooted w n w₃
 rooted {w₁ = w₁} {w₃ = w₃} {n = n} h e c g = record {
   keeps = keeps-then (keeps-as (λ r. inl) (e .keeps)) (keeps-becomes (inr refl) all);
-  quiet = λ a b s. e .quiet a b (step-kept all (λ q. omega (arith, s .from)) s);
+  quiet = λ a b s. e .quiet a b (steps-kept all (omega arith) a b .0 s);
   all = λ v l. all .all v (omega arith) l;
   only = all .only;
 }

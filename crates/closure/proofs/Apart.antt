@@ -2,24 +2,14 @@
 use mathlib.Core.Path.{_≡_, refl, sym, _∙_}
 use mathlib.Core.List.{List}
 use mathlib.Core.Logic.{_⊎_, inl, inr, ⊎-elim, ⊎-map, _↔_}
-use Prim.Native.Nat.{ℕ, _+_, _*_, _≤_, _<_}
+use Prim.Native.Nat.{ℕ, _+_, _*_, _<_}
 use native.Mathlib.Omega.{arith}
 use native.Mathlib.Decide.{ℕ-discrete}
 use Rattle.model.specs.Limits.{mostVertices}
 use Rattle.rows.specs.Rows.{cell, On, Becomes, Step}
 use Rattle.rows.specs.Room.{openRow, todoRow}
-use Rattle.rows.proofs.Rows.{on-dec, same-row, row-kept}
+use Rattle.rows.proofs.Rows.{on-dec, same-row, steps-same, row-kept, steps-kept}
 use Rattle.closure.specs.Turns.{Apart, Taken}
-
--- ---- steps by rows that are the same
-steps-same : {w w′ : List ℕ} {x : ℕ} → (x < mostVertices → (j : ℕ) → j < mostVertices → cell w′ x j ≡ cell w x j) → (b : ℕ) → Step w′ x b ↔ Step w x b
-steps-same f b = (
-  λ s. record { from = s .from; to = s .to; on = sym (f (s .from) b (s .to)) ∙ s .on },
-  λ s. record { from = s .from; to = s .to; on = f (s .from) b (s .to) ∙ s .on },
-)
-
-pub becomes-steps : {w w′ : List ℕ} {r : ℕ} {P : ℕ → Type 0} → Becomes w w′ r P → mostVertices ≤ r → (x b : ℕ) → Step w′ x b ↔ Step w x b
-becomes-steps b h x = steps-same (λ l. row-kept b x (λ e. omega arith))
 
 -- ---- all but row a and the rows used
 module _ {w w′ : List ℕ} {a : ℕ} where
@@ -62,7 +52,7 @@ module _ {w w₁ w₂ : List ℕ} {a p : ℕ} (h : a < mostVertices) (l : p < mo
       opens = row-kept j openRow (λ e. omega arith)
 
       same : (b : ℕ) → Step w₂ a b ↔ Step w₁ a b
-      same = becomes-steps u (omega arith) a
+      same = steps-kept u (omega arith) a
 
       all : (b : ℕ) → Step w a b ⊎ Step w p b → Step w₂ a b
       all b s =
@@ -81,7 +71,7 @@ module _ {w w₁ w₂ : List ℕ} {a p : ℕ} (h : a < mostVertices) (l : p < mo
       }
     where
       same : (b : ℕ) → Step w₂ a b ↔ Step w₁ a b
-      same = becomes-steps u (omega arith) a
+      same = steps-kept u (omega arith) a
 
       still : (x : ℕ) → x < mostVertices → On w₁ openRow x → On w₂ openRow x ⊎ ((x ≡ p) ⊎ ((p < a) × On w p x))
       still x k o = elim (on-dec w₁ p x) [

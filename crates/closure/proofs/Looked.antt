@@ -8,12 +8,12 @@ use native.Mathlib.Decide.{ℕ-discrete}
 use Rattle.model.specs.Limits.{mostVertices}
 use Rattle.rows.specs.Rows.{cell, On, Becomes, Next, Step}
 use Rattle.rows.specs.Room.{openRow, todoRow}
-use Rattle.rows.proofs.Rows.{cell-lt, cell-cases, next-none, row-kept}
+use Rattle.rows.proofs.Rows.{cell-lt, cell-cases, next-none, row-kept, steps-kept}
 use Rattle.closure.specs.Closing.{Plus, one}
 use Rattle.closure.specs.Turns.{Whole, Ready, Apart, RowClosed, Taken}
 use Rattle.closure.proofs.Plus.{plus-then, plus-in, plus-as}
 use Rattle.closure.proofs.Sums.{sum, sum-falls}
-use Rattle.closure.proofs.Apart.{becomes-steps, apart-steps, apart-then, apart-none, apart-open, apart-todo}
+use Rattle.closure.proofs.Apart.{apart-steps, apart-then, apart-none, apart-open, apart-todo}
 
 -- from w to v row a has taken in the steps of every vertex that is not open
 pub record Looked (w v : List ℕ) (a : ℕ) : Type 0 where
@@ -25,7 +25,7 @@ pub record Looked (w v : List ℕ) (a : ℕ) : Type 0 where
 -- ---- every vertex that steps anywhere is opened
 module _ {w w₁ : List ℕ} {d a : ℕ} (r : Ready w d a) (j : Becomes w w₁ openRow (λ k. On w d k ⊎ On w d k)) where
   same : (x b : ℕ) → Step w₁ x b ↔ Step w x b
-  same = becomes-steps j (omega arith)
+  same = steps-kept j (omega arith)
 
   pub opened-whole : (x : ℕ) → x < a → Whole w₁ x
   opened-whole x h = record { through = λ m b s t. same x b .1 (r .whole x h .through m b (same x m .0 s) (same m b .0 t)) }
@@ -54,7 +54,7 @@ module _ {w v v₁ : List ℕ} {a p : ℕ} (m : Looked w v a) (h : a < mostVerti
   opens = row-kept t openRow (λ e. omega arith)
 
   steps : (b : ℕ) → Step v₁ a b ↔ Step v a b
-  steps = becomes-steps t (omega arith) a
+  steps = steps-kept t (omega arith) a
 
   gathered : Looked w v₁ a
   gathered =

@@ -10,12 +10,12 @@ use lib.Dec.{T, eqb, leb, ltb}
 use lib.ListN.{length, getD, drop, drop-of-length-le}
 use Rattle.model.specs.Lists.{from, upTo, any?, within?}
 use Rattle.model.specs.Edges.{edgeNumber}
-use Rattle.model.proofs.Tests.{Tests, test-map, test-and, test-or, test-not, test-dec, test-le, test-lt, test-any}
+use Rattle.model.proofs.Tests.{Tests, test-map, test-agree, test-and, test-or, test-not, test-dec, test-le, test-lt, test-any}
 use Rattle.model.proofs.Lists.{up-to, below}
 use Rattle.calls.specs.Card.{headBytes, edgesOf, risingTriples?}
 use Rattle.calls.proofs.Card.{drop-three}
 use Rattle.demands.specs.Ledger.{byte, edgeCount, edgeAt, stray, falls, outside}
-use Rattle.demands.proofs.Numbers.{test-agree, not-not}
+use Rattle.demands.proofs.Numbers.{not-not}
 
 module _ (bytes : List ℕ) where
   -- edge a, and the bytes behind it

@@ -11,7 +11,7 @@ use Rattle.model.specs.Lists.{_∈_, keep, mem?, Rising, filled}
 use Rattle.model.specs.Limits.{mostEdges}
 use Rattle.model.specs.Edges.{edgeNumber, edge?, label?, edgeMemory?, standing, insertEdge, removeEdge}
 use Rattle.model.specs.Entries.{determined}
-use Rattle.model.proofs.Tests.{Tests, test-true, test-false, test-yields, test-fails, test-map, test-not, test-and, test-eq, test-le, test-lt, test-mem}
+use Rattle.model.proofs.Tests.{Tests, test-true, test-false, test-yields, test-fails, test-map, test-agree, test-not, test-and, test-eq, test-le, test-lt, test-mem}
 use Rattle.model.proofs.Lists.{keep-in, keep-out}
 use Rattle.model.proofs.Edges.{edge-fields, test-edge}
 use Rattle.model.proofs.Memory.{edge-least, standing-filled, filled-memory}
@@ -24,7 +24,7 @@ use Rattle.edges.proofs.Memory.{length-insert, member-insert, rising-insert, le
 use Rattle.demands.specs.Ledger.{Book, Fed, insertion, removal, rising, bookEntries, narrow, full, namedNumber, inserted, insertionNumber, removed, removalNumber, turn}
 use Rattle.demands.specs.Station.{Call, insert, remove, memoryOf, change, fedBy}
 use Rattle.demands.proofs.Rising.{EdgesOf, edge-below, rising-rises, rising-in, rising-out, rising-is}
-use Rattle.demands.proofs.Numbers.{Gives, gives-none, chain, test-agree, above-not, from-not, either-not, not-not, outside-not}
+use Rattle.demands.proofs.Numbers.{Gives, gives-none, chain, above-not, from-not, either-not, not-not, outside-not}
 use Rattle.demands.proofs.Steps.{recordOf, stationOf, Fine, edge-slots, index-slots, Reaches, Matches, matches}
 
 module _ {slots room : ℕ} {b : Book} (f : Fine slots room b) (from label to : ℕ) (work : List ℕ) where

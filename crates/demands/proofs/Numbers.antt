@@ -6,7 +6,7 @@ use Prim.Native.Nat.{ℕ, _≤_, _<_}
 use native.Mathlib.Omega.{arith}
 use lib.Dec.{ltb, leb}
 use Rattle.model.specs.Lists.{within?}
-use Rattle.model.proofs.Tests.{Tests, test-map, test-not, test-le, test-lt}
+use Rattle.model.proofs.Tests.{test-map, test-agree, test-not, test-le, test-lt}
 use Rattle.calls.specs.Checks.{Check, firstRefusal}
 use Rattle.demands.specs.Ledger.{when, outside}
 
@@ -25,13 +25,6 @@ chain {n} {later′} {test} {applies} {later} e f = record { is = go test applie
     go : (test applies : Bool) → applies ≡ not test → (test ≡ true → Gives later later′) → firstRefusal ((n, test) ∷ later) ≡ when applies n later′
     go true applies e f = unfold firstRefusal in rw e (f refl .is)
     go false applies e f = unfold firstRefusal in rw e refl
-
--- two tests of the same
-pub test-agree : {a b : Bool} {P : Type 0} → Tests a P → Tests b P → a ≡ b
-test-agree {a = true} {b = true} s t = refl
-test-agree {a = true} {b = false} s t = absurd (t .passes (s .yields tt))
-test-agree {a = false} {b = true} s t = absurd (s .passes (t .yields tt))
-test-agree {a = false} {b = false} s t = refl
 
 pub above-not : (a b : ℕ) → ltb b a ≡ not (leb a b)
 above-not a b = test-agree (test-lt b a) (test-map (λ h. omega (arith, h)) (λ h k. omega (arith, h, k)) (test-not (test-le a b)))

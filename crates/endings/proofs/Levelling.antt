@@ -9,6 +9,7 @@ use lib.Seq.{take-all}
 use Rattle.model.specs.Limits.{mostVertices, leastWork}
 use Rattle.rows.specs.Rows.{cell, On}
 use Rattle.rows.specs.Room.{parentRows, tempRows}
+use Rattle.rows.proofs.Rows.{steps-same}
 use Rattle.steps.specs.Steps.{Trail, Word, Sourced, Among, Parented, Branchable, Branched}
 use Rattle.steps.proofs.Trails.{trail-edge}
 use Rattle.steps.proofs.Kept.{keeps-cell}
@@ -69,11 +70,7 @@ module _ {edges slots digits w : List ℕ} {d starts longest room cnt : ℕ} (n 
               all = λ x y h k t. parents x h y k ∙ p .all x y h k t;
             };
             children = record { all = children };
-            quiet = λ x y s. n .quiet x y (record {
-              from = s .from;
-              to = s .to;
-              on = sym (kept x (λ a. omega (arith, a .least, s .from)) (steps-outside x (s .from)) y (s .to)) ∙ s .on;
-            });
+            quiet = λ x y s. n .quiet x y (steps-same (λ h. kept x (λ a. omega (arith, a .least)) (steps-outside x h)) y .0 s);
             stocked = record { count = n .stocked .count; there = omega (arith, b .keeps .len, p .keeps .len, n .stocked .there) };
           }
         where

@@ -7,9 +7,8 @@ use lib.ListN.{length, take}
 use lib.Seq.{take-length}
 use Rattle.model.specs.Limits.{mostLongest}
 use Rattle.model.specs.Patterns.{Keyed, minRepeat, foldedLength, own?}
-use Rattle.model.proofs.Tests.{test-map, test-eq, test-same}
+use Rattle.model.proofs.Tests.{test-map, test-agree, test-eq, test-same}
 use Rattle.model.proofs.Patterns.{repeat-front, folded-length}
-use Rattle.model.proofs.IndexMemory.{agree}
 
 -- equal length makes it the pattern
 same-long : (l : List ℕ) → Keyed mostLongest l → length (minRepeat l) ≡ length l → minRepeat l ≡ l
@@ -19,4 +18,4 @@ pub own-length : (l : List ℕ) (n : ℕ) → Keyed mostLongest l → n ≡ fold
 unfolding own?
 own-length l n p e =
     let long : n ≡ length (minRepeat l) = e ∙ folded-length l p in
-    agree (test-eq n (length l)) (test-map (λ q. long ∙ ap length q) (λ q. same-long l p (sym long ∙ q)) (test-same (minRepeat l) l))
+    test-agree (test-eq n (length l)) (test-map (λ q. long ∙ ap length q) (λ q. same-long l p (sym long ∙ q)) (test-same (minRepeat l) l))

@@ -1,17 +1,19 @@
 -- The entries of one pattern: filled, closed, staged on both sides, emptied.
-use mathlib.Core.Path.{_≡_, sym, _∙_}
+use mathlib.Core.Path.{_≡_, _∙_}
 use mathlib.Core.List.{List}
-use mathlib.Core.Logic.{_⊎_, inl, inr, ⊎-elim, _↔_}
+use mathlib.Core.Logic.{inl, inr, ⊎-elim, _↔_}
 use Prim.Native.Nat.{ℕ, _+_, _*_, _/_, _≤_, _<_}
 use native.Mathlib.Omega.{arith}
 use lib.ListN.{getD}
 use Rattle.model.specs.Limits.{mostVertices, leastWork}
 use Rattle.rows.specs.Rows.{cell, On, Step}
-use Rattle.rows.specs.Room.{pickedRow, tempRows}
+use Rattle.rows.specs.Room.{tempRows}
 use Rattle.rows.proofs.Rows.{same-row}
 use Rattle.closure.specs.Closing.{Plus, Closable, Closed}
 use Rattle.closure.proofs.Plus.{plus-then, plus-from, plus-as}
 use Rattle.staging.specs.Stage.{Hubbed, Outward, Stageable, Transits, Stages}
+use Rattle.staging.proofs.Picking.{Alike, alike-back, step-as}
+use Rattle.staging.proofs.Passing.{rows-kept, kept-alike}
 use Rattle.staging.proofs.Adding.{outcome-as, outcome-kept, outcome-since, outcome-then, outcome-over}
 use Rattle.relation.specs.Relation.{Led, Forth}
 use Rattle.clearing.specs.Clearing.{Wipeable, Wiped}
@@ -27,20 +29,13 @@ spared-row {w} {w′} s r h l = same-row w w′ r (λ k q. s .same (r * 4 + k) (
 
 -- ---- memory that differs in row `picked` and behind number 4,096 only
 
-rows-same : {w w′ : List ℕ} {P : ℕ → Type 0} {slots cnt r : ℕ} → Stages w P slots cnt w′ r
-    → (q : ℕ) → q < 1024 → (q ≡ pickedRow → ⊥) → (j : ℕ) → j < mostVertices → cell w′ q j ≡ cell w q j
-rows-same {w} {w′} s q h n = same-row w w′ q (λ k l. s .kept (q * 4 + k) (omega arith) (λ e. n (omega arith)))
-
 module _ {w w′ : List ℕ} {P : ℕ → Type 0} {slots cnt r : ℕ} (s : Stages w P slots cnt w′ r) where
-  step-before : (a b : ℕ) → Step w′ a b → Step w a b
-  step-before a b t = record { from = t .from; to = t .to; on = sym (rows-same s a (omega (arith, t .from)) (λ e. omega (arith, t .from)) b (t .to)) ∙ t .on }
-
-  step-after : (a b : ℕ) → Step w a b → Step w′ a b
-  step-after a b t = record { from = t .from; to = t .to; on = rows-same s a (omega (arith, t .from)) (λ e. omega (arith, t .from)) b (t .to) ∙ t .on }
+  alike : Alike w w′
+  alike = kept-alike w w′ (s .kept)
 
   -- the vertices that step anywhere are still in row `domain`
   starts-after : {domain side code n : ℕ} → Stageable w domain side code slots n → (a b : ℕ) → Step w′ a b → On w′ domain a
-  starts-after {domain} p a b t = rows-same s domain (p .most) (p .not-picked) a (t .from) ∙ p .starts a b (step-before a b t)
+  starts-after {domain} p a b t = rows-kept w w′ (s .kept) domain (p .most) (p .not-picked) a (t .from) ∙ p .starts a b (step-as (alike-back alike) t)
 
 -- ---- the two sides, one after the other
 
@@ -70,17 +65,17 @@ module _ {w w₁ : List ℕ} {domain code slots cnt r : ℕ} (p : Stageable w do
   sides-all fits t =
       record {
         kept = λ k h n. t .kept k h n ∙ s .kept k h n;
-        outcome = outcome-then (s .outcome) fits apart (outcome-as (t .outcome) (λ e. moved (step-before s) (step-after s)) (λ e. moved (step-after s) (step-before s)));
+        outcome = outcome-then (s .outcome) fits apart (outcome-as (t .outcome) (λ e. moved (alike-back (alike s))) (λ e. moved (alike s)));
       }
     where
-      moved : {v v′ : List ℕ} {e : ℕ} → ((a b : ℕ) → Step v a b → Step v′ a b) → ((a b : ℕ) → Step v′ a b → Step v a b) → Hubbed v 1 code e → Hubbed v′ 1 code e
-      moved f g x =
+      moved : {v v′ : List ℕ} {e : ℕ} → Alike v v′ → Hubbed v 1 code e → Hubbed v′ 1 code e
+      moved f x =
           record {
             hub = x .hub;
             owner = x .owner;
-            step = f _ _ (x .step);
+            step = step-as f (x .step);
             late = x .late;
-            alone = λ v h i j. x .alone v h (g _ _ i) (g _ _ j);
+            alone = λ v h i j. x .alone v h (step-as (alike-back f) i) (step-as (alike-back f) j);
             is = x .is;
           }
 

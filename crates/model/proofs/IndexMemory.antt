@@ -1,7 +1,7 @@
 -- Index memory that passes check 12: rising entries and then zeros, which change no answer.
 use mathlib.Core.Path.{_≡_, refl}
 use mathlib.Core.Logic.{⊎-elim}
-use mathlib.Core.Bool.{Bool, true, false}
+use mathlib.Core.Bool.{Bool, true}
 use mathlib.Core.List.{List, [], _∷_, List·Memᴰ·head, List·Memᴰ·append-cases, Memᴰ·append-left}
 use Prim.Native.Nat.{ℕ, _+_, _*_, _-_, _≤_, _<_}
 use native.Mathlib.Omega.{arith}
@@ -11,7 +11,7 @@ use Rattle.model.specs.Lists.{_∈_}
 use Rattle.model.specs.Edges.{standing}
 use Rattle.model.specs.Patterns.{Keyed, codeFrom, code}
 use Rattle.model.specs.Query.{sideOf, ownerOf, hubOf, codeOf, code?, entry?, risingEntries?, indexMemory?, target, source, shared, answers?}
-use Rattle.model.proofs.Tests.{Tests, test-map, test-and, test-lt, test-T, test-true}
+use Rattle.model.proofs.Tests.{Tests, test-map, test-agree, test-and, test-lt, test-T}
 use Rattle.model.proofs.Patterns.{code-ge}
 use Rattle.model.proofs.Query.{test-answers}
 use Rattle.model.proofs.Zeros.{zero-in, Ordered, ordered}
@@ -42,12 +42,6 @@ unfolding codeFrom
 code-some [] p = absurd (omega (arith, p .long))
 code-some (c ∷ l) p = omega (arith, code-ge (0 * 16 + c) l, p .labels c (List·Memᴰ·head refl))
 
--- two tests of one statement
-pub agree : {a b : Bool} {P : Type 0} → Tests a P → Tests b P → a ≡ b
-agree {b = true} p q = test-true p (q .yields tt)
-agree {a = true} {b = false} p q = absurd (q .passes (p .yields tt))
-agree {a = false} {b = false} p q = refl
-
 module _ {f : ℕ → Bool} {prev : ℕ} {xs s : List ℕ} (o : Ordered f prev xs s) where
   entry-in : {x : ℕ} → 1 ≤ x → x ∈ xs → x ∈ s
   entry-in {x} h m = ⊎-elim (λ k. k) (λ k. absurd (omega (arith, zero-in (length xs - length s) k))) (List·Memᴰ·append-cases s (rw (o .zeros) at m))
@@ -58,7 +52,7 @@ module _ {f : ℕ → Bool} {prev : ℕ} {xs s : List ℕ} (o : Ordered f prev x
   pub answers-alone : (vertices : ℕ) {k : ℕ} {l : List ℕ} → Keyed k l → (a b : ℕ) → answers? vertices s l a b ≡ answers? vertices xs l a b
   answers-alone vertices {l = l} p a b =
       let some = code-some l p in
-      agree (test-answers vertices s l a b) (test-map
+      test-agree (test-answers vertices s l a b) (test-map
       (λ h. elim h [ target m ↦ target (entry-in (omega arith) m) | source m ↦ source (entry-in (omega arith) m) | shared u i m n ↦ shared u i (entry-in (omega arith) m) (entry-in (omega arith) n) ])
       (λ h. elim h [ target m ↦ target (entry-out m) | source m ↦ source (entry-out m) | shared u i m n ↦ shared u i (entry-out m) (entry-out n) ])
       (test-answers vertices xs l a b))

@@ -31,6 +31,11 @@ test-yields t e = t .yields (rw e tt)
 pub test-fails : {b : Bool} {P : Type 0} → Tests b P → b ≡ false → ¬ P
 test-fails t e p = rw e at (t .passes p)
 
+-- two tests of one statement
+pub test-agree : {a b : Bool} {P : Type 0} → Tests a P → Tests b P → a ≡ b
+test-agree {b = true} p q = test-true p (q .yields tt)
+test-agree {b = false} p q = test-false p (q .passes)
+
 pub test-dec : {b : Bool} {P : Type 0} → Tests b P → Dec P
 test-dec {b = true} p = yes (p .yields tt)
 test-dec {b = false} p = no (λ q. p .passes q)

@@ -11,8 +11,7 @@ use Rattle.model.specs.Lists.{all?}
 use Rattle.model.specs.Edges.{label?}
 use Rattle.model.specs.Patterns.{times, repeatFrom, minRepeat, own?, keyed?}
 use Rattle.model.specs.Query.{digits, code?}
-use Rattle.model.proofs.Tests.{test-map, test-and, test-eq, test-le}
-use Rattle.model.proofs.IndexMemory.{agree}
+use Rattle.model.proofs.Tests.{test-map, test-agree, test-and, test-eq, test-le}
 use Rattle.query.specs.Codes.{repeats?}
 
 -- ---- own minimum repeats
@@ -66,7 +65,7 @@ module _ {test short labels repeats : Bool} (c : Coded test short labels repeats
 
 -- numbers of two digits
 digitwise : (x y : ℕ) → eqb (x / 16) (y / 16) && eqb (x % 16) (y % 16) ≡ eqb x y
-digitwise x y = agree (test-and (test-eq (x / 16) (y / 16)) (test-eq (x % 16) (y % 16)))
+digitwise x y = test-agree (test-and (test-eq (x / 16) (y / 16)) (test-eq (x % 16) (y % 16)))
     (test-map (λ e. (ap (λ (n : ℕ). n / 16) e, ap (λ (n : ℕ). n % 16) e)) (λ (p, q). omega arith) (test-eq x y))
 
 none : (k : ℕ) → code? k 0 ≡ (leb 1 k && label? 0) && false
@@ -129,7 +128,7 @@ module _ (k i : ℕ) where
 -- na, nb and nc are 1 where the code lacks that digit, which then counts as a label
 module _ (k i : ℕ) {na nb nc : ℕ} (ea : na ≡ (16 - i / 4096) / 16) (eb : nb ≡ (256 - i / 256) / 256) (ec : nc ≡ (4096 - i / 16) / 4096) where
   enough : (n : ℕ) → na + nb + nc + n ≡ 4 → leb 4 (k + na + nb + nc) ≡ leb n k
-  enough n e = agree (test-le 4 (k + na + nb + nc)) (test-map (λ h. omega arith) (λ h. omega arith) (test-le n k))
+  enough n e = test-agree (test-le 4 (k + na + nb + nc)) (test-map (λ h. omega arith) (λ h. omega arith) (test-le n k))
 
   pub coded : i < 2 ^ 16
       → Coded (code? k i) (leb 4 (k + na + nb + nc)) ((label? (i / 4096 + na) && label? (i / 256 % 16 + nb)) && (label? (i / 16 % 16 + nc) && label? (i % 16))) (repeats? i)

@@ -1,34 +1,26 @@
--- Steps after a row is changed.
-use mathlib.Core.Path.{_≡_, sym, _∙_}
+-- Steps after a row has gained vertices.
+use mathlib.Core.Path.{_≡_}
 use mathlib.Core.List.{List}
-use mathlib.Core.Logic.{_⊎_, inl, inr, ⊎-elim, _↔_}
-use Prim.Native.Nat.{ℕ, _≤_, _<_}
-use native.Mathlib.Omega.{arith}
+use mathlib.Core.Logic.{_⊎_, inl, inr, ⊎-elim}
+use Prim.Native.Nat.{ℕ, _<_}
 use native.Mathlib.Decide.{ℕ-discrete}
 use Rattle.model.specs.Limits.{mostVertices}
 use Rattle.rows.specs.Rows.{On, Becomes, Step}
-use Rattle.rows.proofs.Rows.{row-kept}
+use Rattle.rows.proofs.Rows.{step-kept}
 
 module _ {w w′ : List ℕ} {r : ℕ} where
-  -- a row that is no step row leaves the steps as they were
-  pub steps-kept : {P : ℕ → Type 0} → Becomes w w′ r P → mostVertices ≤ r → (a b : ℕ) → Step w′ a b ↔ Step w a b
-  steps-kept c h a b = (
-    λ s. record { from = s .from; to = s .to; on = sym (row-kept c a (λ e. omega (arith, s .from)) b (s .to)) ∙ s .on },
-    λ s. record { from = s .from; to = s .to; on = row-kept c a (λ e. omega (arith, s .from)) b (s .to) ∙ s .on },
-  )
-
   -- a vertex whose row gains Q gains steps to Q
   module _ {Q : ℕ → Type 0} (h : r < mostVertices) (c : Becomes w w′ r (λ k. On w r k ⊎ Q k)) where
     pub steps-only : (a b : ℕ) → Step w′ a b → Step w a b ⊎ ((a ≡ r) × Q b)
     steps-only a b s = elim (ℕ-discrete a r) [
       | yes e ↦ ⊎-elim (λ o. inl (record { from = s .from; to = s .to; on = rw e o })) (λ q. inr (e, q)) (c .only b (s .to) (rw e at (s .on)))
-      | no n ↦ inl (record { from = s .from; to = s .to; on = sym (row-kept c a n b (s .to)) ∙ s .on })
+      | no n ↦ inl (step-kept c n b .0 s)
     ]
 
     pub steps-old : (a b : ℕ) → Step w a b → Step w′ a b
     steps-old a b s = elim (ℕ-discrete a r) [
       | yes e ↦ record { from = s .from; to = s .to; on = rw e (c .all b (s .to) (inl (rw e at (s .on)))) }
-      | no n ↦ record { from = s .from; to = s .to; on = row-kept c a n b (s .to) ∙ s .on }
+      | no n ↦ step-kept c n b .1 s
     ]
 
     pub steps-new : (b : ℕ) → b < mostVertices → Q b → Step w′ r b

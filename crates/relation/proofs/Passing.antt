@@ -7,11 +7,12 @@ use native.Mathlib.Omega.{arith}
 use native.Mathlib.Decide.{ℕ-discrete, decLt}
 use Rattle.model.specs.Limits.{mostVertices}
 use Rattle.rows.specs.Rows.{cell, On, Becomes, Next, Step}
+use Rattle.rows.proofs.Rows.{steps-kept}
 use Rattle.rows.specs.Room.{parentRows, tempRows, gatheredRow}
 use Rattle.steps.specs.Steps.{Keeps, Gathers}
 use Rattle.steps.proofs.Kept.{keeps-none, keeps-then, keeps-becomes, keeps-cell}
 use Rattle.relation.specs.Relation.{Led, Fillable, Forth}
-use Rattle.relation.proofs.Changes.{steps-kept, steps-only, steps-old, steps-new}
+use Rattle.relation.proofs.Changes.{steps-only, steps-old, steps-new}
 
 -- the rows written
 abbrev pub Forward : ℕ → Type 0

@@ -7,7 +7,7 @@ use native.Mathlib.Omega.{arith}
 use native.Mathlib.Decide.{ℕ-discrete}
 use lib.ListN.{getD}
 use Rattle.model.specs.Limits.{mostVertices, leastWork}
-use Rattle.rows.specs.Rows.{cell, On, Has, Becomes, Next}
+use Rattle.rows.specs.Rows.{cell, On, Has, Becomes, Next, Step}
 
 -- ---- one memory
 
@@ -33,6 +33,13 @@ pub same-row : (w w′ : List ℕ) (r : ℕ) → ((k : ℕ) → k < 4 → getD w
     → (j : ℕ) → j < mostVertices → cell w′ r j ≡ cell w r j
 unfolding cell
 same-row w w′ r f j h = ap (λ (x : ℕ). x / 2 ^ (j % 64) % 2) (f (j / 64) (omega arith))
+
+-- and a vertex with the same row steps where it did
+pub steps-same : {w w′ : List ℕ} {x : ℕ} → (x < mostVertices → (j : ℕ) → j < mostVertices → cell w′ x j ≡ cell w x j) → (y : ℕ) → Step w′ x y ↔ Step w x y
+steps-same f y = (
+  λ s. record { from = s .from; to = s .to; on = sym (f (s .from) y (s .to)) ∙ s .on },
+  λ s. record { from = s .from; to = s .to; on = f (s .from) y (s .to) ∙ s .on },
+)
 
 pub next-as : {w w′ : List ℕ} {r p q : ℕ} → ((j : ℕ) → j < mostVertices → cell w′ r j ≡ cell w r j) → Next w′ r p q → Next w r p q
 next-as f h =
@@ -60,6 +67,13 @@ module _ {w w′ : List ℕ} {r : ℕ} {P : ℕ → Type 0} (b : Becomes w w′ 
 
   pub row-kept : (q : ℕ) → (q ≡ r → ⊥) → (j : ℕ) → j < mostVertices → cell w′ q j ≡ cell w q j
   row-kept q n = same-row w w′ q (λ k h. b .others (q * 4 + k) (λ e. n (omega arith)))
+
+  pub step-kept : {x : ℕ} → (x ≡ r → ⊥) → (y : ℕ) → Step w′ x y ↔ Step w x y
+  step-kept {x} n = steps-same (λ _. row-kept x n)
+
+  -- a row that is no step row leaves all steps as they were
+  pub steps-kept : mostVertices ≤ r → (x y : ℕ) → Step w′ x y ↔ Step w x y
+  steps-kept h x = steps-same (λ l. row-kept x (λ e. omega arith))
 
   pub beyond-kept : r < 1024 → (k : ℕ) → leastWork ≤ k → getD w′ k 0 ≡ getD w k 0
   beyond-kept h k l = b .others k (λ e. omega arith)

@@ -10,7 +10,7 @@ use Rattle.staging.specs.Stage.{Hubbed, Stageable, Stages}
 use Rattle.staging.specs.Hub.{Owned, Picks, Emits, Emitted}
 use Rattle.staging.proofs.Adding.{outcome-since}
 use Rattle.staging.proofs.Picking.{Alike, alike-back, owned-as}
-use Rattle.staging.proofs.Passing.{Through, Placed, rows-kept, through-over, through-more}
+use Rattle.staging.proofs.Passing.{Through, Placed, kept-alike, through-over, through-more}
 
 -- the hub stands in the entry
 abbrev pub hubOf : ℕ → ℕ
@@ -37,7 +37,7 @@ module _ {w : List ℕ} {domain side code slots cnt : ℕ} (p : Stageable w doma
     hub-stages = record { kept = λ i l n. c .kept i l ∙ b .others i n; outcome = outcome-since (c .outcome) (b .len) (λ i l. b .others i (λ e. omega arith)) }
 
     steps : Alike w w₁
-    steps = record { same = λ r j l. rows-kept w w₁ (a .kept) r (omega arith) (λ e. omega arith) j }
+    steps = kept-alike w w₁ (a .kept)
 
     hub-only : (e : ℕ) → Emits w₂ u side code mostVertices e → Hubbed w side code e
     hub-only e m =

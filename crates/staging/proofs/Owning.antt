@@ -16,7 +16,7 @@ use Rattle.staging.specs.Stage.{Outward, Adds, Stageable, Transits, Stag
 use Rattle.staging.specs.Hub.{Emittable, Free, OutOf}
 use Rattle.staging.proofs.Adding.{adds-none, adds-as, adds-put, adds-kept, over-now, outcome-over, outcome-as, outcome-since}
 use Rattle.staging.proofs.Picking.{Alike, alike-back, alike-picked, step-as}
-use Rattle.staging.proofs.Passing.{Through, Placed, rows-kept, through-over, through-more}
+use Rattle.staging.proofs.Passing.{Through, Placed, rows-kept, kept-alike, through-over, through-more}
 
 -- ---- the vertices left in row `picked`
 
@@ -230,7 +230,7 @@ module _ {w : List ℕ} {domain code slots cnt : ℕ} (p : Stageable w domain 0 
   -- the entries of owner s
   module _ {w₁ : List ℕ} {k s : ℕ} (a : Through w (Outward w code) ownerOf slots cnt w₁ k s) (h : s < mostVertices) where
     steps : Alike w w₁
-    steps = record { same = λ r j l. rows-kept w w₁ (a .kept) r (omega arith) (λ e. omega arith) j }
+    steps = kept-alike w w₁ (a .kept)
 
     back : Alike w₁ w
     back = alike-back steps

@@ -11,6 +11,7 @@ use Rattle.rows.specs.Rows.{cell, On, Next}
 use Rattle.rows.specs.Room.{pickedRow}
 use Rattle.rows.proofs.Rows.{next-as, same-row}
 use Rattle.staging.specs.Stage.{Outcome, Stageable, Stages}
+use Rattle.staging.proofs.Picking.{Alike}
 use Rattle.staging.proofs.Adding.{adds-none, outcome-over, outcome-as, outcome-then}
 
 -- e is an entry of a vertex below n
@@ -34,6 +35,9 @@ pub record Placed (w : List ℕ) (domain : ℕ) (P : ℕ → Type 0) (at : ℕ �
 pub rows-kept : (w w′ : List ℕ) → ((i : ℕ) → i < leastWork → (i / 4 ≡ pickedRow → ⊥) → getD w′ i 0 ≡ getD w i 0)
     → (r : ℕ) → r < 1024 → (r ≡ pickedRow → ⊥) → (j : ℕ) → j < mostVertices → cell w′ r j ≡ cell w r j
 rows-kept w w′ f r h n = same-row w w′ r (λ i l. f (r * 4 + i) (omega arith) (λ e. n (omega arith)))
+
+pub kept-alike : (w w′ : List ℕ) → ((i : ℕ) → i < leastWork → (i / 4 ≡ pickedRow → ⊥) → getD w′ i 0 ≡ getD w i 0) → Alike w w′
+kept-alike w w′ f = record { same = λ r j l. rows-kept w w′ f r (omega arith) (λ e. omega arith) j }
 
 module _ {w : List ℕ} {domain side code slots cnt : ℕ} (p : Stageable w domain side code slots cnt) {P : ℕ → Type 0} {at : ℕ → ℕ}
     (q : Placed w domain P at) where
