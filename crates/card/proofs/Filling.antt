@@ -5,8 +5,9 @@ use Prim.Native.Nat.{ℕ, _+_, _-_, _*_, _<_}
 use native.Mathlib.Nat.{le-of-eq}
 use native.Mathlib.Omega.{arith}
 use lib.ListN.{length, getD, take, drop, set, replicate, length-drop, drop-of-length-le, List·getD-append}
-use lib.Seq.{take-all, take-at, drop-at, getD-drop}
+use lib.Seq.{take-at, drop-at, getD-drop}
 use Rattle.model.specs.Lists.{filled, zeroed}
+use Rattle.model.proofs.Lists.{part-all}
 use Rattle.calls.specs.Card.{headBytes, edgeAt, edgesOf}
 use Rattle.calls.proofs.Card.{length-edges, getD-edges}
 use Rattle.edges.proofs.Mix.{Mixed, front-turn}
@@ -15,9 +16,6 @@ use Rattle.card.specs.Card.{Fillable}
 -- behind a part that reaches to the end there is nothing
 pub part-last : (cur part : List ℕ) (n : ℕ) → take n cur ++ (part ++ drop (length cur - n) (drop n cur)) ≡ take n cur ++ part
 part-last cur part n = rw (drop-of-length-le (drop n cur) (le-of-eq (length-drop n cur)), append-nil)
-
-pub part-all : (cur : List ℕ) (n : ℕ) → take (length cur - n) (drop n cur) ≡ drop n cur
-part-all cur n = take-all (length cur - n) (drop n cur) (le-of-eq (length-drop n cur))
 
 -- numbers at the front, and zeros behind them
 pub zeros-behind : (l s : List ℕ) (n : ℕ) {cur zeros : List ℕ} → length l ≡ n → cur ≡ l ++ drop (length l) s

@@ -9,14 +9,14 @@ use Rattle.model.specs.Lists.{spread}
 use Rattle.model.specs.Edges.{fromOf, labelOf, toOf}
 use Rattle.model.proofs.Tests.{test-yields}
 use Rattle.model.proofs.Edges.{test-edge}
-use Rattle.model.proofs.Lists.{getD-in}
+use Rattle.model.proofs.Lists.{getD-in, part-all}
 use Rattle.calls.specs.Change.{Header}
 use Rattle.calls.specs.Card.{headBytes, edgeBytes, cardOf}
 use Rattle.calls.proofs.Card.{length-bytes, getD-bytes}
 use Rattle.edges.proofs.Mix.{Mixed, front-turn}
 use Rattle.edges.proofs.Copying.{save-start, save-end}
 use Rattle.card.specs.Card.{headOf, Body, Writable}
-use Rattle.card.proofs.Filling.{part-last, part-all}
+use Rattle.card.proofs.Filling.{part-last}
 
 abbrev pub bytes : List ℕ → List ℕ
 bytes edges = spread edgeBytes edges

@@ -65,14 +65,10 @@ pub fn scan(vertices: u32, edges: &[u32]) -> Scanned
     let mut prev: u32 = 0;
     while i < edges.len() {
         let x = edges[i];
-        if x == 0 {
+        if x <= prev {
             if all_zero(&edges[i..]) {
                 return Scanned::Edges(i);
-            } else {
-                return Scanned::Invalid;
             }
-        }
-        if x <= prev {
             return Scanned::Invalid;
         }
         if is_edge(vertices, x) {

@@ -18,4 +18,5 @@ pub mod Renumber
 pub mod Counting
 pub mod Memory
 pub mod Zeros
+pub mod Checked
 pub mod IndexMemory

@@ -3,13 +3,13 @@ use mathlib.Core.Path.{_≡_, refl, sym, ap, _∙_}
 use mathlib.Core.Logic.{_⊎_, inl, inr, ⊎-elim, _≢_}
 use mathlib.Core.Bool.{Bool, true, false, not}
 use mathlib.Core.List.{List, [], _∷_, _++_, List·Memᴰ, List·Memᴰ·head, List·Memᴰ·tail, List·Memᴰ·cases-cons, List·Memᴰ·not-nil, List·Memᴰ·append-cases, Memᴰ·append-left, Memᴰ·append-right, Memᴰ·of-map, map}
-use Prim.Native.Nat.{ℕ, zero, suc, _+_, _≤_, _<_}
-use native.Mathlib.Nat.{eq-or-lt-of-le, le-of-suc-le-suc, not-suc-le-zero}
+use Prim.Native.Nat.{ℕ, zero, suc, _+_, _-_, _≤_, _<_}
+use native.Mathlib.Nat.{eq-or-lt-of-le, le-of-suc-le-suc, not-suc-le-zero, le-of-eq}
 use native.Mathlib.Decide.{ℕ-discrete}
 use native.Mathlib.Omega.{arith}
 use lib.Dec.{T}
-use lib.ListN.{length, getD, set}
-use lib.Seq.{getD-set-same, getD-set-other}
+use lib.ListN.{length, getD, set, take, drop, length-drop}
+use lib.Seq.{getD-set-same, getD-set-other, take-all}
 use Rattle.model.specs.Lists.{put, keep, from, upTo, spread, Sorted, none, next, Rising}
 
 module _ {A : Type 0} where
@@ -166,3 +166,7 @@ below-none = record { at = λ j h. absurd (not-suc-le-zero h) }
 
 pub below-more : {P : ℕ → Type 0} {i : ℕ} → Below P i → P i → Below P (i + 1)
 below-more {P} {i} b p = record { at = λ j h. elim (ℕ-discrete i j) [ yes e ↦ rw e at p | no n ↦ b .at j (omega arith) ] }
+
+-- the part `&l[i..]` is all that is behind i
+pub part-all : (l : List ℕ) (i : ℕ) → take (length l - i) (drop i l) ≡ drop i l
+part-all l i = take-all (length l - i) (drop i l) (le-of-eq (length-drop i l))

@@ -4,7 +4,7 @@ use native.Mathlib.Omega.{arith}
 use borrow.Author.Needs.{needs}
 use Rattle.calls.specs.Card.{headBytes, headerOf, risingTriples?}
 use Rattle.calls.proofs.Card.{card-edges-long, card-edges-body}
-use Rattle.card.proofs.Filling.{part-all}
+use Rattle.model.proofs.Lists.{part-all}
 use Rattle.card.proofs.has_edges.Statement.{statement}
 use Rattle.card.proofs.has_edges.Tie as tie
 

@@ -1,12 +1,16 @@
 -- `edges::scan` meets its contract. The invariant: from slot i on, with the last edge passed, the memory says what all of it says.
 use mathlib.Core.Path.{_≡_, sym, _∙_}
-use mathlib.Core.Bool.{true, false}
-use Prim.Native.Nat.{_≤_, _-_}
+use mathlib.Core.Bool.{Bool, true, false, cond}
+use mathlib.Core.List.{List}
+use Prim.Native.Nat.{ℕ, _+_, _-_, _≤_, _<_}
 use native.Mathlib.Omega.{arith}
 use borrow.Author.Needs.{needs}
-use lib.ListN.{length, drop}
+use lib.ListN.{length, getD, take, drop}
+use Rattle.model.specs.Edges.{edge?, zeros?}
+use Rattle.model.proofs.Checked.{checked-rest, checked-next, checked-zeros, checked-end}
 use Rattle.edges.specs.Memory.{scanOf}
-use Rattle.edges.proofs.Scanning.{scanFrom, scan-long, scan-start, scan-zero, scan-low, scan-other, scan-more, scan-end}
+use Rattle.edges.specs.declared.Scanned.the-variants.{Edges, Invalid}
+use Rattle.edges.proofs.Scanning.{scanFrom, scan-long, scan-start}
 use Rattle.edges.proofs.scan.Statement.{statement}
 use Rattle.edges.proofs.scan.Tie as tie
 
@@ -43,22 +47,37 @@ part-all-zero-end c = search needs
 all-zero-requires : tie.Need-all-zero-requires Inv-loop μ-loop
 all-zero-requires c κs = search needs
 
+-- slot i is read
+module _ (at : tie.After-shared-slice-known2 Inv-loop μ-loop) where
+  abbrev i : ℕ
+  i = at .before .before .loop .i
+
+  abbrev prev : ℕ
+  prev = at .before .before .loop .prev
+
+  abbrev vertices : ℕ
+  vertices = at .before .before .before .before .before .args .vertices
+
+  abbrev edges : List ℕ
+  edges = at .before .before .before .before .before .args .edges .now
+
+  -- it does not rise: the reply is what `all_zero` says of it and the slots behind it
+  rest : (b : Bool) → getD edges i 0 ≤ prev → zeros? (take (length edges - i) (drop i edges)) ≡ b → cond b (Edges i) Invalid ≡ scanOf vertices edges
+  rest b l e =
+      sym (checked-zeros Edges Invalid edges i b e)
+      ∙ (sym (checked-rest Edges Invalid (edge? vertices) prev edges i l) ∙ at .before .before .loop .inv .1)
+
+  -- it rises: the reply goes on behind it if it is an edge
+  onward : (b : Bool) → prev < getD edges i 0 → edge? vertices (getD edges i 0) ≡ b
+      → cond b (scanFrom vertices (getD edges i 0) (i + 1) (drop (i + 1) edges)) Invalid ≡ scanOf vertices edges
+  onward b l e =
+      sym (checked-next Edges Invalid (edge? vertices) prev edges i (at .before .loop-test .taken) l b e) ∙ at .before .before .loop .inv .1
+
 returns-2 : tie.Need-returns-2 Inv-loop μ-loop
-returns-2 c =
-    let t = c .before .before .before .before .before in
-    let z = sym (c .before .all-zero .ensures) ∙ c .if3 .taken in
-    sym (scan-zero _ _ _ _ (t .loop-test .taken) (c .before .before .before .if2 .taken) true z) ∙ t .before .loop .inv .1
+returns-2 c = rest (c .before .before .before .before) true (c .before .before .before .if2 .taken) (sym (c .before .all-zero .ensures) ∙ c .if3 .taken)
 
 returns-3 : tie.Need-returns-3 Inv-loop μ-loop
-returns-3 c =
-    let t = c .before .before .before .before .before in
-    let z = sym (c .before .all-zero .ensures) ∙ c .if3 .left in
-    sym (scan-zero _ _ _ _ (t .loop-test .taken) (c .before .before .before .if2 .taken) false z) ∙ t .before .loop .inv .1
-
-returns-4 : tie.Need-returns-4 Inv-loop μ-loop
-returns-4 c =
-    let t = c .before .before .before in
-    sym (sym (t .before .loop .inv .1) ∙ scan-low _ _ _ _ (t .loop-test .taken) (c .before .if2 .left) (omega (arith, c .if4 .taken)))
+returns-3 c = rest (c .before .before .before .before) false (c .before .before .before .if2 .taken) (sym (c .before .all-zero .ensures) ∙ c .if3 .left)
 
 is-edge-requires : tie.Need-is-edge-requires Inv-loop μ-loop
 is-edge-requires c κs = search needs
@@ -70,21 +89,16 @@ loop-less : tie.Need-loop-less Inv-loop μ-loop
 loop-less c = search needs
 
 loop-again : tie.Need-loop-again Inv-loop μ-loop
-loop-again c =
-    let t = c .before .before .before .before .before in
-    let e = sym (c .before .is-edge .ensures) ∙ c .if5 .taken in
-    let n = c .before .before in
-    (omega arith, scan-more _ _ _ _ (t .loop-test .taken) (n .before .if2 .left) (n .if4 .left) e ∙ t .before .loop .inv .1)
+loop-again c = (omega arith, onward (c .before .before .before) true (c .before .before .if2 .left) (sym (c .before .is-edge .ensures) ∙ c .if4 .taken))
+
+returns-4 : tie.Need-returns-4 Inv-loop μ-loop
+returns-4 c = onward (c .before .before .before) false (c .before .before .if2 .left) (sym (c .before .is-edge .ensures) ∙ c .if4 .left)
 
 returns-5 : tie.Need-returns-5 Inv-loop μ-loop
 returns-5 c =
-    let t = c .before .before .before .before .before in
-    let e = sym (c .before .is-edge .ensures) ∙ c .if5 .left in
-    let n = c .before .before in
-    sym (scan-other _ _ _ _ (t .loop-test .taken) (n .before .if2 .left) (n .if4 .left) e) ∙ t .before .loop .inv .1
-
-returns-6 : tie.Need-returns-6 Inv-loop μ-loop
-returns-6 c = sym (scan-end _ _ _ _ (c .loop-test .left)) ∙ c .before .loop .inv .1
+    let at = c .before in
+    let start = at .before .before .before in
+    sym (checked-end Edges Invalid (edge? (start .args .vertices)) (at .loop .prev) (start .args .edges .now) (at .loop .i) (c .loop-test .left)) ∙ at .loop .inv .1
 
 pub scan-spec : {M : Type 1} → statement M
 scan-spec =
@@ -103,10 +117,9 @@ scan-spec =
     all-zero-requires
     returns-2
     returns-3
-    returns-4
     is-edge-requires
     add-i
     loop-less
     loop-again
-    returns-5
-    returns-6)
+    returns-4
+    returns-5)
