@@ -10,6 +10,7 @@ use lib.ListN.{length, drop, set}
 use Rattle.model.specs.Limits.{mostLongest}
 use Rattle.model.specs.Patterns.{keyed?, foldedLength, minRepeat}
 use Rattle.model.specs.Replies.{numberOf, answerOf, replyOf}
+use Rattle.model.specs.Query.{Answered}
 use Rattle.model.specs.declared.Refusal.{Refusal}
 use Rattle.model.specs.declared.SearchReply.{SearchReply}
 use Rattle.model.specs.declared.Answer.{Answer}
@@ -20,9 +21,10 @@ use Rattle.calls.specs.Change.{Header, Memory, Handed, back, none, Change, numb
 use Rattle.calls.specs.Search.{Searched, SearchMeets}
 use Rattle.calls.specs.Card.{headBytes, headerOf, edgesOf, readRefusal, readCall, Written as CardWritten}
 use Rattle.calls.proofs.Settling.{Result, settledChange, settled}
-use Rattle.store.specs.Store.{wroteOf, WriteMeets}
+use Rattle.store.specs.Store.{numbers, Meets, wroteOf, WriteMeets}
+use Rattle.store.specs.declared.Changed.{Changed}
 use Rattle.store.specs.declared.Written.{Written}
-use Rattle.rlc_c.specs.Interface.{two?, otherRecord, handedTo, ChangesInC, repliedInC, SearchesInC, wroteInC, WritesInC}
+use Rattle.rlc_c.specs.Interface.{two?, otherRecord, handedTo, HandsBack, ChangesInC, answeredInC, repliedInC, SearchesInC, wroteInC, WritesInC}
 
 -- a record of another length
 pub other : (words : List ℕ) → (length words ≡ 2 → ⊥) → two? words ≡ false
@@ -45,15 +47,15 @@ written (x ∷ y ∷ []) a b e = refl
 written (x ∷ y ∷ z ∷ l) a b e = absurd (omega arith)
 
 -- a call that hands back a record
-pub changed : {words edges index work : List ℕ} {m : Memory} {c : Change} {h : Header} {answer : Answer} {r v l : ℕ}
-    → length words ≡ 2 → c .handed ≡ back h → record { vertices = v; longest = l } ≡ numbersOf (c .handed) → Leaves c answer edges index work
-    → r ≡ answerOf answer → ChangesInC words m c r (set (set words 0 v) 1 l) edges index work
-changed {words} {h = h} {v = v} {l = l} e hands header leaves q =
+pub changed : {words words′ edges index work : List ℕ} {m : Memory} {c : Change} {h : Header} {made : Changed} {r : ℕ}
+    → length words ≡ 2 → c .handed ≡ back h → Meets c made edges index work → HandsBack made r words′ → ChangesInC words m c r words′ edges index work
+changed {words} {h = h} {made = made} e hands meets b =
     let t = two words e in
-    let same : record { vertices = v; longest = l } ≡ h = header ∙ ap numbersOf hands in
+    let same : numbers (made .header) ≡ h = meets .header ∙ ap numbersOf hands in
+    let leaves = meets .leaves in
     record {
-      reply = rw t (q ∙ leaves .answer);
-      words-after = rw (t, hands) (written words v l e ∙ ap (λ (k : Header). k .vertices ∷ k .longest ∷ []) same);
+      reply = rw t (b .number ∙ leaves .answer);
+      words-after = rw (t, hands) (b .words-after ∙ ap (λ (k : Header). k .vertices ∷ k .longest ∷ []) same);
       edges-after = rw t (leaves .edges-after);
       index-after = rw t (leaves .index-after);
       work-after = rw t (leaves .work-after);
@@ -92,6 +94,10 @@ read-refused card m refusal e =
     ]
 
 -- ---- calls that change no record
+
+pub answered : (words : List ℕ) {reply call : Answered} {r : ℕ} → length words ≡ 2 → reply ≡ call → r ≡ answeredInC reply
+    → r ≡ cond (two? words) (answeredInC call) otherRecord
+answered words e s q = rw (two words e) (q ∙ ap answeredInC s)
 
 module _ {words work : List ℕ} {c : Searched} where
   pub unsearched : (length words ≡ 2 → ⊥) → SearchesInC words work c (otherRecord * 2 ^ 32) work

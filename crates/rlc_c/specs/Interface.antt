@@ -7,9 +7,11 @@ use lib.Dec.{eqb}
 use lib.ListN.{length, getD}
 use Rattle.model.specs.Levels.{Reply, Yes, No, Spent, Refused}
 use Rattle.model.specs.Query.{Answered, Yes as AnsweredYes, No as AnsweredNo, Refused as AnsweredRefused}
+use Rattle.model.specs.Replies.{answerOf}
 use Rattle.calls.specs.Change.{Header, Memory, Handed, back, none, Change}
 use Rattle.calls.specs.Search.{Searched}
 use Rattle.calls.specs.Card.{Wrote, Length, Refused as NotWritten, Written}
+use Rattle.store.specs.declared.Changed.{Changed}
 
 -- the record that the numbers lent hold
 abbrev pub headerIn : List ℕ → Header
@@ -26,6 +28,11 @@ otherRecord = 255
 abbrev pub handedTo : List ℕ → Handed → List ℕ
 handedTo words (back h) = h .vertices ∷ h .longest ∷ []
 handedTo words none = words
+
+-- what a changing call of the store hands back: its answer as a number, and its record as the numbers lent
+pub record HandsBack (c : Changed) (r : ℕ) (words : List ℕ) : Type 0 where
+  pub number : r ≡ answerOf (c .answer)
+  pub words-after : words ≡ c .header .vertices ∷ c .header .longest ∷ []
 
 -- a changing call: 0 or the number of the refusal, the record handed back, and memory afterwards
 pub record ChangesInC (words : List ℕ) (m : Memory) (c : Change) (r : ℕ) (words′ edges index work : List ℕ) : Type 0 where

@@ -3,18 +3,19 @@
 use model::Answer;
 use model::QueryReply;
 use model::SearchReply;
+use store::Changed;
 use store::Header;
 use store::Written;
 ghost use mathlib.Core.Path.{_≡_};
 ghost use mathlib.Core.Bool.{cond};
 ghost use mathlib.Core.List.{[]};
+ghost use lib.ListN.{length, getD};
 ghost use Rattle.model.specs.Patterns.{foldedLength};
-ghost use Rattle.model.specs.Replies.{answerOf};
 ghost use Rattle.calls.specs.Change.{openCall, insertCall, removeCall};
 ghost use Rattle.calls.specs.Card.{readCall, writeCall};
 ghost use Rattle.calls.specs.Query.{queryCall};
 ghost use Rattle.calls.specs.Search.{searchCall};
-ghost use Rattle.rlc_c.specs.Interface.{headerIn, two?, otherRecord, ChangesInC, answeredInC, SearchesInC, WritesInC};
+ghost use Rattle.rlc_c.specs.Interface.{headerIn, two?, otherRecord, HandsBack, ChangesInC, answeredInC, SearchesInC, WritesInC};
 
 const OTHER_RECORD: u32 = 255;
 
@@ -25,9 +26,26 @@ const SPENT: u32 = 101;
 // A reply stands above 32 bits for the levels.
 const UNIT: u64 = 4294967296;
 
-fn number(answer: Answer) -> u32
-    ensures { λ r. ⌜ r ≡ answerOf answer ⌝ }
+// The record that two words hold.
+fn header_in(words: &[u32]) -> Header
+    requires { ⌜ length (now words) ≡ 2 ⌝ }
+    ensures { λ r. ⌜ r ≡ record { vertices = getD (now (words .entry)) 0 0; longest = getD (now (words .entry)) 1 0 } ⌝ }
 {
+    Header {
+        vertices: words[0],
+        longest: words[1],
+    }
+}
+
+// Writes the record that a call hands back, and tells its answer as a number.
+fn hand_back(words: &mut [u32], changed: Changed) -> u32
+    requires { ⌜ length (now words) ≡ 2 ⌝ }
+    ensures { λ r. ⌜ HandsBack changed r (now (words .exit)) ⌝ }
+{
+    let header = changed.header;
+    words[0] = header.vertices;
+    words[1] = header.longest;
+    let answer = changed.answer;
     match answer {
         Answer::Accepted => 0,
         Answer::Refused(refusal) => store::refusal_number(refusal),
@@ -46,16 +64,9 @@ pub extern "C" fn rlc_open(words: &mut [u32], edges: &mut [u32], index: &mut [u6
     if words.len() != 2 {
         return OTHER_RECORD;
     }
-    let header = Header {
-        vertices: words[0],
-        longest: words[1],
-    };
+    let header = header_in(words);
     let changed = header.open(edges, index);
-    let back = changed.header;
-    words[0] = back.vertices;
-    words[1] = back.longest;
-    let answer = changed.answer;
-    number(answer)
+    hand_back(words, changed)
 }
 
 // Insertion (laying).
@@ -80,16 +91,9 @@ pub extern "C" fn rlc_insert(
     if words.len() != 2 {
         return OTHER_RECORD;
     }
-    let header = Header {
-        vertices: words[0],
-        longest: words[1],
-    };
+    let header = header_in(words);
     let changed = header.insert(from, label, to, edges, index, work);
-    let back = changed.header;
-    words[0] = back.vertices;
-    words[1] = back.longest;
-    let answer = changed.answer;
-    number(answer)
+    hand_back(words, changed)
 }
 
 // Removal (lifting).
@@ -114,16 +118,9 @@ pub extern "C" fn rlc_remove(
     if words.len() != 2 {
         return OTHER_RECORD;
     }
-    let header = Header {
-        vertices: words[0],
-        longest: words[1],
-    };
+    let header = header_in(words);
     let changed = header.remove(from, label, to, edges, index, work);
-    let back = changed.header;
-    words[0] = back.vertices;
-    words[1] = back.longest;
-    let answer = changed.answer;
-    number(answer)
+    hand_back(words, changed)
 }
 
 // Card reading. The record is written where the card is accepted.
@@ -147,16 +144,11 @@ pub extern "C" fn rlc_read_card(
         return OTHER_RECORD;
     }
     let changed = store::read_card(card, edges, index, work);
-    let back = changed.header;
     let answer = changed.answer;
-    match answer {
-        Answer::Accepted => {
-            words[0] = back.vertices;
-            words[1] = back.longest;
-            0
-        }
-        Answer::Refused(refusal) => store::refusal_number(refusal),
+    if let Answer::Refused(refusal) = answer {
+        return store::refusal_number(refusal);
     }
+    hand_back(words, changed)
 }
 
 // The query.
@@ -177,10 +169,7 @@ pub extern "C" fn rlc_query(
     if words.len() != 2 {
         return OTHER_RECORD;
     }
-    let header = Header {
-        vertices: words[0],
-        longest: words[1],
-    };
+    let header = header_in(words);
     let reply = store::query(header, start, destination, pattern, index);
     match reply {
         QueryReply::Yes => YES,
@@ -210,10 +199,7 @@ pub extern "C" fn rlc_search(
     if words.len() != 2 {
         return OTHER_RECORD as u64 * UNIT;
     }
-    let header = Header {
-        vertices: words[0],
-        longest: words[1],
-    };
+    let header = header_in(words);
     let reply = store::level_search(
         header,
         start,
@@ -243,10 +229,7 @@ pub extern "C" fn rlc_write_card(words: &[u32], edges: &[u32], output: &mut [u8]
     if words.len() != 2 {
         return OTHER_RECORD as u64 * UNIT;
     }
-    let header = Header {
-        vertices: words[0],
-        longest: words[1],
-    };
+    let header = header_in(words);
     let written = store::write_card(header, edges, output);
     match written {
         Written::Length(length) => length as u64,

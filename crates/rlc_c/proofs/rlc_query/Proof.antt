@@ -2,7 +2,7 @@
 use mathlib.Core.Path.{refl, sym, ap, _∙_}
 use Rattle.model.specs.Replies.{answeredOf}
 use Rattle.rlc_c.specs.Interface.{answeredInC}
-use Rattle.rlc_c.proofs.Handing.{two, other}
+use Rattle.rlc_c.proofs.Handing.{other, answered}
 use borrow.Author.Needs.{needs}
 use Rattle.rlc_c.proofs.rlc_query.Statement.{statement}
 use Rattle.rlc_c.proofs.rlc_query.Tie as tie
@@ -10,11 +10,8 @@ use Rattle.rlc_c.proofs.rlc_query.Tie as tie
 returns : tie.Need-returns
 returns c = rw (other (c .before .before .before .before .args .words .now) (c .if1 .taken)) refl
 
-shared-slice-read-t12 : tie.Need-shared-slice-read-t12
-shared-slice-read-t12 c = search needs
-
-shared-slice-read-t14 : tie.Need-shared-slice-read-t14
-shared-slice-read-t14 c = search needs
+header-in-requires : tie.Need-header-in-requires
+header-in-requires c κs = search needs
 
 query-requires : tie.Need-query-requires
 query-requires c κs = search needs
@@ -32,21 +29,26 @@ refusal-number-requires : tie.Need-refusal-number-requires
 refusal-number-requires c κs = search needs
 
 returns-2 : tie.Need-returns-2
-returns-2 c = rw (two (c .before .before .before .before .before .before .before .before .before .args .words .now) (c .before .before .before .before .before .if1 .left)) (ap answeredInC (ap answeredOf (sym (c .enum-told .given .1)) ∙ c .before .before .query .ensures))
+returns-2 c =
+    let call = c .before .before in
+    answered (call .before .before .before .before .before .before .args .words .now) (call .before .before .if1 .left) (rw (call .before .header-in .ensures) at (call .query .ensures)) (ap answeredInC (ap answeredOf (sym (c .enum-told .given .1))))
 
 returns-3 : tie.Need-returns-3
-returns-3 c = rw (two (c .before .before .before .before .before .before .before .before .before .args .words .now) (c .before .before .before .before .before .if1 .left)) (ap answeredInC (ap answeredOf (sym (c .enum-told2 .given .1)) ∙ c .before .before .query .ensures))
+returns-3 c =
+    let call = c .before .before in
+    answered (call .before .before .before .before .before .before .args .words .now) (call .before .before .if1 .left) (rw (call .before .header-in .ensures) at (call .query .ensures)) (ap answeredInC (ap answeredOf (sym (c .enum-told2 .given .1))))
 
 returns-4 : tie.Need-returns-4
-returns-4 c = rw (two (c .before .before .before .before .before .before .before .before .before .before .before .args .words .now) (c .before .before .before .before .before .before .before .if1 .left)) (c .refusal-number .ensures ∙ ap answeredInC (ap answeredOf (sym (c .before .before .reply .given .1)) ∙ c .before .before .before .before .query .ensures))
+returns-4 c =
+    let call = c .before .before .before .before in
+    answered (call .before .before .before .before .before .before .args .words .now) (call .before .before .if1 .left) (rw (call .before .header-in .ensures) at (call .query .ensures)) (c .refusal-number .ensures ∙ ap answeredInC (ap answeredOf (sym (c .before .before .reply .given .1))))
 
 pub rlc-query-spec : {M : Type 1} → statement M
 rlc-query-spec =
     tie.close
     (tie.spec
     returns
-    shared-slice-read-t12
-    shared-slice-read-t14
+    header-in-requires
     query-requires
     enum-told
     enum-told-2

@@ -1,7 +1,5 @@
 -- `rlc_c::rlc_read_card` meets its contract.
 use mathlib.Core.Path.{sym, ap, _∙_}
-use native.Mathlib.Omega.{arith}
-use lib.ListN.{length-set}
 use Rattle.model.specs.Replies.{answerOf}
 use Rattle.rlc_c.proofs.Handing.{untouched, changed, kept, read-accepted, read-refused}
 use borrow.Author.Needs.{needs}
@@ -13,15 +11,6 @@ returns c = untouched (c .if1 .taken)
 
 read-card-requires : tie.Need-read-card-requires
 read-card-requires c κs = search needs
-
-enum-told : tie.Need-enum-told
-enum-told c = search needs
-
-slice-write-words : tie.Need-slice-write-words
-slice-write-words c = search needs
-
-slice-write-words-2 : tie.Need-slice-write-words-2
-slice-write-words-2 c = simp length-set (omega arith)
 
 enum-known-answer : tie.Need-enum-known-answer
 enum-known-answer c = search needs
@@ -38,14 +27,22 @@ same-length-2 c = search needs
 same-length-3 : tie.Need-same-length-3
 same-length-3 c = search needs
 
-same-length-4 : tie.Need-same-length-4
-same-length-4 c = search needs
-
 returns-2 : tie.Need-returns-2
 returns-2 c =
-    let meets = c .before .before .before .before .before .before .before .before .before .read-card .ensures in
-    let told = ap answerOf (c .enum-told .given .1) in
-    changed (c .before .before .before .before .before .before .before .before .before .before .before .before .before .if1 .left) (read-accepted _ _ (sym told ∙ meets .leaves .answer)) (meets .header) (meets .leaves) (sym told)
+    let told = c .before .before in
+    let call = told .before .before .before .before .before .before .before .before in
+    let meets = call .read-card .ensures in
+    let number = sym (ap answerOf (told .answer .given .1)) in
+    kept (call .before .before .before .before .if1 .left) (read-refused _ _ (told .answer .given .0 .0) (number ∙ meets .leaves .answer)) (meets .leaves) (c .refusal-number .ensures ∙ number)
+
+enum-told : tie.Need-enum-told
+enum-told c = search needs
+
+hand-back-requires : tie.Need-hand-back-requires
+hand-back-requires c κs = search needs
+
+same-length-4 : tie.Need-same-length-4
+same-length-4 c = search needs
 
 same-length-5 : tie.Need-same-length-5
 same-length-5 c = search needs
@@ -58,9 +55,11 @@ same-length-7 c = search needs
 
 returns-3 : tie.Need-returns-3
 returns-3 c =
-    let meets = c .before .before .before .before .before .before .before .before .before .before .before .read-card .ensures in
-    let told = ap answerOf (c .before .before .answer .given .1) in
-    kept (c .before .before .before .before .before .before .before .before .before .before .before .before .before .before .before .if1 .left) (read-refused _ _ (c .before .before .answer .given .0 .0) (sym told ∙ meets .leaves .answer)) (meets .leaves) (c .refusal-number .ensures ∙ sym told)
+    let back = c .before .before in
+    let told = back .before .before in
+    let call = told .before .before .before .before .before .before .before .before in
+    let meets = call .read-card .ensures in
+    changed (call .before .before .before .before .if1 .left) (read-accepted _ _ (sym (ap answerOf (told .enum-told .given .1)) ∙ meets .leaves .answer)) meets (back .hand-back .ensures)
 
 pub rlc-read-card-spec : {M : Type 1} → statement M
 rlc-read-card-spec =
@@ -68,16 +67,15 @@ rlc-read-card-spec =
     (tie.spec
     returns
     read-card-requires
-    enum-told
-    slice-write-words
-    slice-write-words-2
     enum-known-answer
     refusal-number-requires
     same-length
     same-length-2
     same-length-3
-    same-length-4
     returns-2
+    enum-told
+    hand-back-requires
+    same-length-4
     same-length-5
     same-length-6
     same-length-7

@@ -1,6 +1,4 @@
 -- `rlc_c::rlc_remove` meets its contract.
-use native.Mathlib.Omega.{arith}
-use lib.ListN.{length-set}
 use Rattle.calls.proofs.Change.{remove-hands}
 use Rattle.rlc_c.proofs.Handing.{untouched, changed}
 use borrow.Author.Needs.{needs}
@@ -10,23 +8,14 @@ use Rattle.rlc_c.proofs.rlc_remove.Tie as tie
 returns : tie.Need-returns
 returns c = untouched (c .if1 .taken)
 
-slice-read-t15 : tie.Need-slice-read-t15
-slice-read-t15 c = search needs
-
-slice-read-t17 : tie.Need-slice-read-t17
-slice-read-t17 c = search needs
+header-in-requires : tie.Need-header-in-requires
+header-in-requires c κs = search needs
 
 remove-requires : tie.Need-remove-requires
 remove-requires c κs = search needs
 
-slice-write-words : tie.Need-slice-write-words
-slice-write-words c = search needs
-
-slice-write-words-2 : tie.Need-slice-write-words-2
-slice-write-words-2 c = simp length-set (omega arith)
-
-number-requires : tie.Need-number-requires
-number-requires c κs = search needs
+hand-back-requires : tie.Need-hand-back-requires
+hand-back-requires c κs = search needs
 
 same-length : tie.Need-same-length
 same-length c = search needs
@@ -41,19 +30,20 @@ same-length-4 : tie.Need-same-length-4
 same-length-4 c = search needs
 
 returns-2 : tie.Need-returns-2
-returns-2 c = changed (c .before .before .before .before .before .before .before .before .before .before .before .before .before .before .if1 .left) (remove-hands _ _ _ _ _) (c .before .before .before .before .before .before .before .before .remove .ensures .header) (c .before .before .before .before .before .before .before .before .remove .ensures .leaves) (c .number .ensures)
+returns-2 c =
+    let back = c .before .before in
+    let call = back .before .before .before .before .before .before .before .before in
+    let read = call .before .before .before .before in
+    changed (read .before .before .if1 .left) (remove-hands _ _ _ _ _) (rw (read .header-in .ensures) at (call .remove .ensures)) (back .hand-back .ensures)
 
 pub rlc-remove-spec : {M : Type 1} → statement M
 rlc-remove-spec =
     tie.close
     (tie.spec
     returns
-    slice-read-t15
-    slice-read-t17
+    header-in-requires
     remove-requires
-    slice-write-words
-    slice-write-words-2
-    number-requires
+    hand-back-requires
     same-length
     same-length-2
     same-length-3

@@ -17,11 +17,8 @@ mul-result c = search needs
 returns : tie.Need-returns
 returns c = unsearched (c .if1 .taken)
 
-shared-slice-read-t18 : tie.Need-shared-slice-read-t18
-shared-slice-read-t18 c = search needs
-
-shared-slice-read-t20 : tie.Need-shared-slice-read-t20
-shared-slice-read-t20 c = search needs
+header-in-requires : tie.Need-header-in-requires
+header-in-requires c κs = search needs
 
 level-search-requires : tie.Need-level-search-requires
 level-search-requires c κs = search needs
@@ -78,25 +75,37 @@ same-length : tie.Need-same-length
 same-length c = search needs
 
 returns-2 : tie.Need-returns-2
-returns-2 c = searched (c .before .before .before .before .before .before .before .before .before .if1 .left) (c .before .before .before .before .before .level-search .ensures) (ap repliedInC (ap replyOf (sym (c .before .reply .given .1))))
+returns-2 c =
+    let call = c .before .before .before .before .before in
+    let read = call .before .before in
+    searched (read .before .if1 .left) (rw (read .header-in .ensures) at (call .level-search .ensures)) (ap repliedInC (ap replyOf (sym (c .before .reply .given .1))))
 
 same-length-2 : tie.Need-same-length-2
 same-length-2 c = search needs
 
 returns-3 : tie.Need-returns-3
-returns-3 c = searched (c .before .before .before .before .before .before .before .before .before .if1 .left) (c .before .before .before .before .before .level-search .ensures) (ap repliedInC (ap replyOf (sym (c .before .reply2 .given .1))))
+returns-3 c =
+    let call = c .before .before .before .before .before in
+    let read = call .before .before in
+    searched (read .before .if1 .left) (rw (read .header-in .ensures) at (call .level-search .ensures)) (ap repliedInC (ap replyOf (sym (c .before .reply2 .given .1))))
 
 same-length-3 : tie.Need-same-length-3
 same-length-3 c = search needs
 
 returns-4 : tie.Need-returns-4
-returns-4 c = searched (c .before .before .before .before .before .before .before .before .before .if1 .left) (c .before .before .before .before .before .level-search .ensures) (ap repliedInC (ap replyOf (sym (c .before .reply3 .given .1))))
+returns-4 c =
+    let call = c .before .before .before .before .before in
+    let read = call .before .before in
+    searched (read .before .if1 .left) (rw (read .header-in .ensures) at (call .level-search .ensures)) (ap repliedInC (ap replyOf (sym (c .before .reply3 .given .1))))
 
 same-length-4 : tie.Need-same-length-4
 same-length-4 c = search needs
 
 returns-5 : tie.Need-returns-5
-returns-5 c = searched (c .before .before .before .before .before .before .before .before .before .before .if1 .left) (c .before .before .before .before .before .before .level-search .ensures) (ap (λ (n : ℕ). n * 2 ^ 32) (c .refusal-number .ensures) ∙ ap repliedInC (ap replyOf (sym (c .before .before .reply4 .given .1))))
+returns-5 c =
+    let call = c .before .before .before .before .before .before in
+    let read = call .before .before in
+    searched (read .before .if1 .left) (rw (read .header-in .ensures) at (call .level-search .ensures)) (ap (λ (n : ℕ). n * 2 ^ 32) (c .refusal-number .ensures) ∙ ap repliedInC (ap replyOf (sym (c .before .before .reply4 .given .1))))
 
 pub rlc-search-spec : {M : Type 1} → statement M
 rlc-search-spec =
@@ -105,8 +114,7 @@ rlc-search-spec =
     cast-result
     mul-result
     returns
-    shared-slice-read-t18
-    shared-slice-read-t20
+    header-in-requires
     level-search-requires
     enum-known-reply
     cast-result-2

@@ -17,11 +17,8 @@ mul-result c = search needs
 returns : tie.Need-returns
 returns c = unwritten (c .if1 .taken)
 
-shared-slice-read-t12 : tie.Need-shared-slice-read-t12
-shared-slice-read-t12 c = search needs
-
-shared-slice-read-t14 : tie.Need-shared-slice-read-t14
-shared-slice-read-t14 c = search needs
+header-in-requires : tie.Need-header-in-requires
+header-in-requires c κs = search needs
 
 write-card-requires : tie.Need-write-card-requires
 write-card-requires c κs = search needs
@@ -45,13 +42,19 @@ same-length : tie.Need-same-length
 same-length c = search needs
 
 returns-2 : tie.Need-returns-2
-returns-2 c = wrote (c .before .before .before .before .before .before .before .before .before .if1 .left) (c .before .before .before .before .before .write-card .ensures) (ap wroteInC (ap wroteOf (sym (c .before .written .given .1))))
+returns-2 c =
+    let call = c .before .before .before .before .before in
+    let read = call .before .before in
+    wrote (read .before .if1 .left) (rw (read .header-in .ensures) at (call .write-card .ensures)) (ap wroteInC (ap wroteOf (sym (c .before .written .given .1))))
 
 same-length-2 : tie.Need-same-length-2
 same-length-2 c = search needs
 
 returns-3 : tie.Need-returns-3
-returns-3 c = wrote (c .before .before .before .before .before .before .before .before .before .before .if1 .left) (c .before .before .before .before .before .before .write-card .ensures) (ap (λ (n : ℕ). n * 2 ^ 32) (c .refusal-number .ensures) ∙ ap wroteInC (ap wroteOf (sym (c .before .before .written2 .given .1))))
+returns-3 c =
+    let call = c .before .before .before .before .before .before in
+    let read = call .before .before in
+    wrote (read .before .if1 .left) (rw (read .header-in .ensures) at (call .write-card .ensures)) (ap (λ (n : ℕ). n * 2 ^ 32) (c .refusal-number .ensures) ∙ ap wroteInC (ap wroteOf (sym (c .before .before .written2 .given .1))))
 
 pub rlc-write-card-spec : {M : Type 1} → statement M
 rlc-write-card-spec =
@@ -60,8 +63,7 @@ rlc-write-card-spec =
     cast-result
     mul-result
     returns
-    shared-slice-read-t12
-    shared-slice-read-t14
+    header-in-requires
     write-card-requires
     enum-known-written
     enum-known-written-2
