@@ -83,7 +83,7 @@ pub fn insert(
     match slot {
         Slot::Refused(refusal) => Answer::Refused(refusal),
         Slot::At(n, at) => {
-            edges::save(edges, &mut work[settle::SAVED..]);
+            settle::save(edges, work);
             edges::insert(edges, n, at, edges::edge_number(from, label, to));
             settle::settle(vertices, longest, n + 1, edges, index, work)
         }
@@ -111,7 +111,7 @@ pub fn remove(
     match slot {
         Slot::Refused(refusal) => Answer::Refused(refusal),
         Slot::At(n, at) => {
-            edges::save(edges, &mut work[settle::SAVED..]);
+            settle::save(edges, work);
             edges::remove(edges, n, at, edges::edge_number(from, label, to));
             settle::settle(vertices, longest, n - 1, edges, index, work)
         }
@@ -141,7 +141,7 @@ pub fn read(card: &[u8], edges: &mut [u32], index: &mut [u64], work: &mut [u64])
             answer: Answer::Refused(refusal),
         },
         Layout::Holds(vertices, longest, n) => {
-            edges::save(edges, &mut work[settle::SAVED..]);
+            settle::save(edges, work);
             card::fill(card, n, edges);
             let answer = settle::settle(vertices, longest, n, edges, index, work);
             if let Answer::Refused(refusal) = answer {

@@ -1,2 +1,3 @@
+pub mod Saving
 pub mod Indexing
 pub mod Settling

@@ -16,6 +16,12 @@ use Rattle.rows.specs.Room.{savedNumbers}
 abbrev pub savedIn : (work edges : List ℕ) → List ℕ
 savedIn work edges = take (length edges) (drop savedNumbers work)
 
+-- saving: edge memory's numbers stand in work memory, which is as long as it was
+pub record Saves (edges work work′ : List ℕ) : Type 0 where
+  pub saved : savedIn work′ edges ≡ edges
+  pub narrow : Narrow edges
+  pub work-long : length work′ ≡ length work
+
 -- n rising edges of the graph and then zeros stand in edge memory, and work memory has room for a build
 pub record Settleable (h : Header) (n : ℕ) (edges index work : List ℕ) : Type 0 where
   pub vertices-most : h .vertices ≤ mostVertices

@@ -1,13 +1,24 @@
-// What insertion, removal and card reading have in common: the index of the wanted edges is built, or memory restored where the entries do
-// not fit (13). Work memory ends zero.
+// What insertion, removal and card reading have in common: edge memory is saved; once the wanted edges are written, their index is built, or
+// memory restored where the entries do not fit (13). Work memory ends zero.
 use build::Built;
 use model::Answer;
 use model::Refusal;
+ghost use Prim.Native.Nat.{_+_, _≤_};
+ghost use lib.ListN.{length};
+ghost use Rattle.rows.specs.Room.{savedNumbers};
 ghost use Rattle.settle.specs.Indexing.{Indexable, Indexes};
-ghost use Rattle.settle.specs.Settle.{Settleable, Settles};
+ghost use Rattle.settle.specs.Settle.{Saves, Settleable, Settles};
 
 // Where edge memory is saved in work memory while a change is tried.
-pub const SAVED: usize = 2048;
+const SAVED: usize = 2048;
+
+// Saves edge memory in work memory, before a change is tried.
+pub fn save(edges: &[u32], work: &mut [u64])
+    requires { ⌜ savedNumbers + length (now edges) ≤ length (now work) ⌝ }
+    ensures { λ _. ⌜ Saves (now (edges .entry)) (now (work .entry)) (now (work .exit)) ⌝ }
+{
+    edges::save(edges, &mut work[SAVED..]);
+}
 
 // Builds the index that the edges determine, in the access order counted. Work memory holds anything afterwards, but for the numbers in
 // which edge memory is saved.

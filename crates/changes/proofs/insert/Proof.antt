@@ -1,18 +1,16 @@
 -- `changes::insert` meets its contract: a refusal leaves memory alone; else edge memory is saved, the insertion made and settled.
 use mathlib.Core.Path.{_≡_, ap, _∙_}
 use mathlib.Core.List.{List}
-use Prim.Native.Nat.{ℕ, _-_, _≤_}
+use Prim.Native.Nat.{ℕ}
 use native.Mathlib.Omega.{arith}
 use borrow.Author.Needs.{needs}
-use borrow.Rule.Slice.PartMut.{putMid, same-len-mid}
 use lib.ListN.{length}
 use Rattle.model.specs.Lists.{filled}
-use Rattle.model.specs.Limits.{leastWork}
 use Rattle.model.specs.Edges.{edgeNumber, standing, insertEdge}
 use Rattle.calls.specs.Change.{Header, Memory, back}
 use Rattle.named.specs.Named.{Places}
 use Rattle.named.proofs.Naming.{numbered}
-use Rattle.changes.proofs.Trying.{Tried, save-room, saved-there, settleable, settled}
+use Rattle.changes.proofs.Trying.{Tried, save-room, settleable, settled}
 use Rattle.changes.proofs.Calls.{insert-stops, insert-wanted, insert-count, insert-leaves}
 use Rattle.changes.proofs.insert.Statement.{statement}
 use Rattle.changes.proofs.insert.Tie as tie
@@ -35,28 +33,21 @@ passed : (c : tie.After-known-told2)
     → Places (header c) (start c .args .from) (start c .args .label) (start c .args .to) (memory c) (c .before .slot2 .given .0 .0) (c .before .slot2 .given .0 .1 .0)
 passed c = rw (c .before .slot2 .given .1) at (c .before .before .before .check-insert .ensures)
 
--- work memory is long enough
-long : (c : tie.After-known-told2) → leastWork ≤ length (start c .args .work .now)
-long c = omega (arith, insert-wanted (passed c) .room)
-
 -- where edge memory is changed
 abbrev checked : tie.After-slice-known5 → tie.After-known-told2
 checked c = c .before .before .before .before .before .before .before .before .before .before
 
 tried : (c : tie.After-slice-known5) {n : ℕ} → n ≡ length (wanted (checked c))
     → Tried (wanted (checked c)) (memory (checked c)) n (c .before .before .insert .last .0)
-    (putMid 2048 (length (memory (checked c) .work) - 2048) (memory (checked c) .work) (c .before .before .before .before .before .before .before .save .last .1 .0))
+    (c .before .before .before .before .before .before .before .save .last .1 .0)
 tried c count =
-    let save = c .before .before .before .before .before .before .before .save in
     let m = memory (checked c) in
     record {
       count = count;
       edges-are =
           c .before .before .insert .ensures
           ∙ ap (λ (x : ℕ). filled (length (m .edges)) (insertEdge x (standing (m .edges)))) (c .before .before .before .edge-number .ensures);
-      saved = saved-there (m .edges) (m .work) (save .last .1 .0) _ _ (omega (arith, long (checked c))) (save .ensures);
-      work-long = same-len-mid 2048 (length (m .work) - 2048) (m .work) (save .last .1 .0) (save .kept .1 .0);
-      narrow = λ i. omega (arith, checked c .before .before .before .before .before .before .before .before .before .slice-known .given i);
+      saves = c .before .before .before .before .before .before .before .save .ensures;
     }
 
 check-insert-requires : tie.Need-check-insert-requires
@@ -68,17 +59,8 @@ enum-known-slot c = search needs
 enum-known-slot-2 : tie.Need-enum-known-slot-2
 enum-known-slot-2 c = search needs
 
-sub-save : tie.Need-sub-save
-sub-save c = omega (arith, long (c .before))
-
-part-save-start : tie.Need-part-save-start
-part-save-start c = omega (arith, long (c .before))
-
-part-save-end : tie.Need-part-save-end
-part-save-end c = search needs
-
 save-requires : tie.Need-save-requires
-save-requires c κs = save-room (memory (c .before .before) .edges) (memory (c .before .before) .work) (insert-wanted (passed (c .before .before)) .few) (long (c .before .before))
+save-requires c κs = save-room (insert-wanted (passed (c .before .before)))
 
 edge-number-requires : tie.Need-edge-number-requires
 edge-number-requires c κs = numbered (passed (c .before .before .before .before .before .before) .passes)
@@ -129,9 +111,6 @@ insert-spec =
     check-insert-requires
     enum-known-slot
     enum-known-slot-2
-    sub-save
-    part-save-start
-    part-save-end
     save-requires
     edge-number-requires
     insert-requires

@@ -1,16 +1,14 @@
 -- `changes::read` meets its contract: a refusal leaves memory alone; else edge memory is saved, filled from the card, and settled.
 use mathlib.Core.Path.{sym, ap}
 use mathlib.Core.List.{List}
-use Prim.Native.Nat.{ℕ, _-_, _≤_}
+use Prim.Native.Nat.{ℕ}
 use native.Mathlib.Omega.{arith}
 use borrow.Author.Needs.{needs}
-use borrow.Rule.Slice.PartMut.{putMid, same-len-mid}
-use lib.ListN.{length, drop}
-use Rattle.model.specs.Limits.{leastWork}
+use lib.ListN.{drop}
 use Rattle.calls.specs.Change.{Header, Memory, none, numbersOf, Leaves, settle}
 use Rattle.calls.specs.Card.{headBytes, edgesOf}
 use Rattle.changes.specs.Changes.{Reads}
-use Rattle.changes.proofs.Trying.{Wanted, Tried, save-room, saved-there, settleable, settled}
+use Rattle.changes.proofs.Trying.{Wanted, Tried, save-room, settleable, settled}
 use Rattle.changes.proofs.Reading.{read-count, read-fillable, read-wanted, read-leaves, read-hands, leaves-as, refused-leaves, refused-none}
 use Rattle.changes.proofs.read.Statement.{statement}
 use Rattle.changes.proofs.read.Tie as tie
@@ -35,26 +33,18 @@ passed c = rw (c .before .layout2 .given .1) at (c .before .before .before .chec
 wanted : (c : tie.After-known-told2) → Wanted (header c) (cardEdges c) (memory c)
 wanted c = read-wanted (passed c) (omega (arith, c .before .before .before .before .before .before .before .before .before .before .shared-slice-known .given 5))
 
--- work memory is long enough
-long : (c : tie.After-known-told2) → leastWork ≤ length (start c .args .work .now)
-long c = omega (arith, wanted c .room)
-
 -- where edge memory is filled
 abbrev checked : tie.After-slice-known5 → tie.After-known-told2
 checked c = c .before .before .before .before .before .before .before .before .before
 
 tried : (c : tie.After-slice-known5)
     → Tried (cardEdges (checked c)) (memory (checked c)) (checked c .before .layout2 .given .0 .1 .1 .0) (c .before .before .fill .last .1 .1 .0)
-    (putMid 2048 (length (memory (checked c) .work) - 2048) (memory (checked c) .work) (c .before .before .before .before .before .before .save .last .1 .0))
+    (c .before .before .before .before .before .before .save .last .1 .0)
 tried c =
-    let save = c .before .before .before .before .before .before .save in
-    let m = memory (checked c) in
     record {
       count = read-count (passed (checked c));
       edges-are = c .before .before .fill .ensures;
-      saved = saved-there (m .edges) (m .work) (save .last .1 .0) _ _ (omega (arith, long (checked c))) (save .ensures);
-      work-long = same-len-mid 2048 (length (m .work) - 2048) (m .work) (save .last .1 .0) (save .kept .1 .0);
-      narrow = λ i. omega (arith, checked c .before .before .before .before .before .before .before .before .before .slice-known .given i);
+      saves = c .before .before .before .before .before .before .save .ensures;
     }
 
 -- where it is settled
@@ -75,17 +65,8 @@ enum-known-layout c = search needs
 enum-known-layout-2 : tie.Need-enum-known-layout-2
 enum-known-layout-2 c = search needs
 
-sub-save : tie.Need-sub-save
-sub-save c = omega (arith, long (c .before))
-
-part-save-start : tie.Need-part-save-start
-part-save-start c = omega (arith, long (c .before))
-
-part-save-end : tie.Need-part-save-end
-part-save-end c = search needs
-
 save-requires : tie.Need-save-requires
-save-requires c κs = save-room (memory (c .before .before) .edges) (memory (c .before .before) .work) (wanted (c .before .before) .few) (long (c .before .before))
+save-requires c κs = save-room (wanted (c .before .before))
 
 fill-requires : tie.Need-fill-requires
 fill-requires c κs = read-fillable (passed (c .before .before .before .before .before .before))
@@ -152,9 +133,6 @@ read-spec =
     check-read-requires
     enum-known-layout
     enum-known-layout-2
-    sub-save
-    part-save-start
-    part-save-end
     save-requires
     fill-requires
     settle-requires

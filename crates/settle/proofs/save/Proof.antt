@@ -1,0 +1,39 @@
+-- `save` meets its contract: edge memory is copied to the front of the part from the saving place on.
+use Prim.Native.Nat.{_-_}
+use native.Mathlib.Omega.{arith}
+use lib.ListN.{length}
+use borrow.Author.Needs.{needs}
+use borrow.Rule.Slice.PartMut.{same-len-mid}
+use Rattle.model.proofs.Lists.{in-getD}
+use Rattle.settle.proofs.Saving.{saved-there}
+use Rattle.settle.proofs.save.Statement.{statement}
+use Rattle.settle.proofs.save.Tie as tie
+
+sub-save : tie.Need-sub-save
+sub-save c = search needs
+
+part-save-start : tie.Need-part-save-start
+part-save-start c = search needs
+
+part-save-end : tie.Need-part-save-end
+part-save-end c = search needs
+
+save-requires : tie.Need-save-requires
+save-requires c κs = search needs
+
+same-length : tie.Need-same-length
+same-length c = search needs
+
+returns : tie.Need-returns
+returns c =
+    let save = c .before .before .save in
+    let start = c .before .before .before .before .before .before in
+    let work = start .args .work .now in
+    record {
+      saved = saved-there (start .args .edges .now) work (save .last .1 .0) _ _ (omega (arith, start .pre)) (save .ensures);
+      narrow = λ x k. let z = in-getD k in omega (arith, c .before .before .before .before .before .shared-slice-known .given (z .i), z .is);
+      work-long = same-len-mid 2048 (length work - 2048) work (save .last .1 .0) (save .kept .1 .0);
+    }
+
+pub save-spec : {M : Type 1} → statement M
+save-spec = tie.close (tie.spec sub-save part-save-start part-save-end save-requires same-length returns)
