@@ -12,7 +12,7 @@ use Rattle.model.specs.Replies.{numberOf}
 use Rattle.model.specs.declared.Refusal.{Refusal}
 use Rattle.model.proofs.Replies.{number-some}
 use Rattle.model.proofs.Tests.{test-true, test-false, test-yields, test-mem, test-not, test-lt}
-use Rattle.edges.specs.Memory.{scanOf, findOf}
+use Rattle.edges.specs.Memory.{scanOf}
 use Rattle.edges.specs.declared.Scanned.the-variants.{Edges}
 use Rattle.edges.specs.declared.Found.the-variants.{At, Before}
 use Rattle.edges.proofs.Memory.{Scans, scans, Stands, stands, Lacks, lacks}
@@ -20,7 +20,7 @@ use Rattle.calls.specs.Checks.{Check}
 use Rattle.calls.specs.Change.{Header, Memory, changeChecks, changeRefusal, insertRefusal, removeRefusal}
 use Rattle.calls.proofs.Checks.{none, pass, stop, first-is, Passed, also, passes}
 use Rattle.calls.proofs.Change.{stop-first, pass-first, Good, change-good}
-use Rattle.named.specs.Named.{Passes, Places, Takes}
+use Rattle.named.specs.Named.{Passes, Finds, Places, Takes}
 
 -- edge memory that passes check 3, as the scan finds it
 scanned : (vertices : ℕ) (xs : List ℕ) {n : ℕ} → edgeMemory? vertices xs ≡ true → n ≡ length (standing xs) → scanOf vertices xs ≡ Edges n
@@ -52,62 +52,64 @@ module _ {h : Header} {from label to : ℕ} {m : Memory} where
     pub searchable : (n ≤ length (m .edges)) × Rising (take n (m .edges))
     searchable = (memory .within, rw (memory .front) (memory .rising))
 
-    module _ {at : ℕ} where
-      found : findOf (edgeNumber from label to) (take n (m .edges)) ≡ At at → Stands (edgeNumber from label to) (standing (m .edges)) at
-      found e = stands (edgeNumber from label to) (standing (m .edges)) (rw (memory .front) at e)
+  -- what the lookup found
+  module _ {n at : ℕ} where
+    stood : Finds h from label to m n (At at) → Stands (edgeNumber from label to) (standing (m .edges)) at
+    stood f = stands (edgeNumber from label to) (standing (m .edges)) (rw (memory (f .passes) .front) at (f .is))
 
-      missed : findOf (edgeNumber from label to) (take n (m .edges)) ≡ Before at → Lacks (edgeNumber from label to) (standing (m .edges)) at
-      missed e = lacks (edgeNumber from label to) (standing (m .edges)) (memory .rising) (rw (memory .front) at e)
+    lacked : Finds h from label to m n (Before at) → Lacks (edgeNumber from label to) (standing (m .edges)) at
+    lacked f = lacks (edgeNumber from label to) (standing (m .edges)) (memory (f .passes) .rising) (rw (memory (f .passes) .front) at (f .is))
 
-      in-true : findOf (edgeNumber from label to) (take n (m .edges)) ≡ At at → mem? (edgeNumber from label to) (standing (m .edges)) ≡ true
-      in-true e = test-true (test-mem _ (standing (m .edges))) (found e .member)
+    in-true : Finds h from label to m n (At at) → mem? (edgeNumber from label to) (standing (m .edges)) ≡ true
+    in-true f = test-true (test-mem _ (standing (m .edges))) (stood f .member)
 
-      in-false : findOf (edgeNumber from label to) (take n (m .edges)) ≡ Before at → mem? (edgeNumber from label to) (standing (m .edges)) ≡ false
-      in-false e = test-false (test-mem _ (standing (m .edges))) (missed e .absent)
+    in-false : Finds h from label to m n (Before at) → mem? (edgeNumber from label to) (standing (m .edges)) ≡ false
+    in-false f = test-false (test-mem _ (standing (m .edges))) (lacked f .absent)
 
-      -- insertion: 7 where the edge stands, then 9 where all slots are taken
-      pub insert-present : findOf (edgeNumber from label to) (take n (m .edges)) ≡ At at → insertRefusal h from label to m ≡ 7
-      unfolding changeRefusal insertRefusal
-      insert-present e = pass-first (changeChecks h from label to m) _ tt (p .is) ∙ first-is (stop (ap not (in-true e)))
+    -- insertion: 7 where the edge stands, then 9 where all slots are taken
+    pub insert-present : Finds h from label to m n (At at) → insertRefusal h from label to m ≡ 7
+    unfolding changeRefusal insertRefusal
+    insert-present f = pass-first (changeChecks h from label to m) _ tt (f .passes .is) ∙ first-is (stop (ap not (in-true f)))
 
-      pub insert-full : findOf (edgeNumber from label to) (take n (m .edges)) ≡ Before at → length (m .edges) ≤ n → insertRefusal h from label to m ≡ 9
-      unfolding changeRefusal insertRefusal
-      insert-full e l =
-          pass-first (changeChecks h from label to m) _ tt (p .is)
-          ∙ first-is (pass (ap not (in-false e)) (stop (test-false (test-lt (length (standing (m .edges))) (length (m .edges))) (λ k. omega (arith, k, l, p .count)))))
+    pub insert-full : Finds h from label to m n (Before at) → length (m .edges) ≤ n → insertRefusal h from label to m ≡ 9
+    unfolding changeRefusal insertRefusal
+    insert-full f l =
+        pass-first (changeChecks h from label to m) _ tt (f .passes .is)
+        ∙ first-is (pass (ap not (in-false f)) (stop (test-false (test-lt (length (standing (m .edges))) (length (m .edges))) (λ k. omega (arith, k, l, f .passes .count)))))
 
-      pub places : findOf (edgeNumber from label to) (take n (m .edges)) ≡ Before at → n < length (m .edges) → Places h from label to m n at
-      unfolding changeRefusal insertRefusal
-      places e l =
-          record {
-            is =
-                pass-first (changeChecks h from label to m) _ tt (p .is)
-                ∙ first-is (pass (ap not (in-false e)) (pass (test-true (test-lt (length (standing (m .edges))) (length (m .edges))) (omega (arith, l, p .count))) none));
-            passes = p;
-            place = record { holds = memory .holds; place = missed e .place; room = l };
-          }
+    pub places : Finds h from label to m n (Before at) → n < length (m .edges) → Places h from label to m n at
+    unfolding changeRefusal insertRefusal
+    places f l =
+        record {
+          is =
+              pass-first (changeChecks h from label to m) _ tt (f .passes .is)
+              ∙ first-is (pass (ap not (in-false f)) (pass (test-true (test-lt (length (standing (m .edges))) (length (m .edges))) (omega (arith, l, f .passes .count))) none));
+          passes = f .passes;
+          place = record { holds = memory (f .passes) .holds; place = lacked f .place; room = l };
+        }
 
-      -- removal: 8 where the edge does not stand
-      pub remove-absent : findOf (edgeNumber from label to) (take n (m .edges)) ≡ Before at → removeRefusal h from label to m ≡ 8
-      unfolding changeRefusal removeRefusal
-      remove-absent e = pass-first (changeChecks h from label to m) _ tt (p .is) ∙ first-is (stop (in-false e))
+    -- removal: 8 where the edge does not stand
+    pub remove-absent : Finds h from label to m n (Before at) → removeRefusal h from label to m ≡ 8
+    unfolding changeRefusal removeRefusal
+    remove-absent f = pass-first (changeChecks h from label to m) _ tt (f .passes .is) ∙ first-is (stop (in-false f))
 
-      pub takes : findOf (edgeNumber from label to) (take n (m .edges)) ≡ At at → Takes h from label to m n at
-      unfolding changeRefusal removeRefusal
-      takes e =
-          record {
-            is = pass-first (changeChecks h from label to m) _ tt (p .is) ∙ first-is (pass (in-true e) none);
-            passes = p;
-            place = record {
-              holds = memory .holds;
-              place = found e .place;
-              inside = omega (arith, found e .inside, p .count);
-              there =
-                  sym (getD-take n (m .edges) at 0 (omega (arith, found e .inside, p .count)))
-                  ∙ ap (λ (l : List ℕ). getD l at 0) (memory .front)
-                  ∙ found e .there;
-            };
-          }
+    pub takes : Finds h from label to m n (At at) → Takes h from label to m n at
+    unfolding changeRefusal removeRefusal
+    takes f =
+        let inside : at < n = omega (arith, stood f .inside, f .passes .count) in
+        record {
+          is = pass-first (changeChecks h from label to m) _ tt (f .passes .is) ∙ first-is (pass (in-true f) none);
+          passes = f .passes;
+          place = record {
+            holds = memory (f .passes) .holds;
+            place = stood f .place;
+            inside = inside;
+            there =
+                sym (getD-take n (m .edges) at 0 inside)
+                ∙ ap (λ (l : List ℕ). getD l at 0) (memory (f .passes) .front)
+                ∙ stood f .there;
+          };
+        }
 
 -- what the last checks leave
 first-of : {n : ℕ} {b : Bool} {l : List Check} → Passed ((n, b) ∷ l) → b ≡ true

@@ -1,13 +1,17 @@
 -- What the checks of an insertion and a removal hand on.
 use mathlib.Core.Path.{_≡_}
 use Prim.Native.Nat.{ℕ}
-use lib.ListN.{length}
+use lib.ListN.{length, take}
 use Rattle.model.specs.Edges.{edgeNumber, standing}
 use Rattle.model.specs.Replies.{numberOf}
 use Rattle.calls.specs.Change.{Header, Memory, changeRefusal, insertRefusal, removeRefusal}
-use Rattle.edges.specs.Memory.{Insertable, Removable}
+use Rattle.edges.specs.Memory.{findOf, Insertable, Removable}
+use Rattle.edges.specs.declared.Found.{Found}
+use Rattle.edges.specs.declared.Found.the-variants.{At as FoundAt, Before}
 use Rattle.named.specs.declared.Standing.{Standing}
 use Rattle.named.specs.declared.Standing.the-variants.{Edges, Refused}
+use Rattle.named.specs.declared.Lookup.{Lookup}
+use Rattle.named.specs.declared.Lookup.the-variants.{Present, Absent, Refused as LookupRefused}
 use Rattle.named.specs.declared.Slot.{Slot}
 use Rattle.named.specs.declared.Slot.the-variants.{At, Refused as SlotRefused}
 
@@ -19,6 +23,16 @@ pub record Passes (h : Header) (from label to : ℕ) (m : Memory) (n : ℕ) : Ty
 abbrev pub Changes : (h : Header) (from label to : ℕ) → Memory → Standing → Type 0
 Changes h from label to m (Edges n) = Passes h from label to m n
 Changes h from label to m (Refused r) = changeRefusal h from label to m ≡ numberOf r
+
+-- and the named edge is looked up among them
+pub record Finds (h : Header) (from label to : ℕ) (m : Memory) (n : ℕ) (found : Found) : Type 0 where
+  pub passes : Passes h from label to m n
+  pub is : findOf (edgeNumber from label to) (take n (m .edges)) ≡ found
+
+abbrev pub LooksUp : (h : Header) (from label to : ℕ) → Memory → Lookup → Type 0
+LooksUp h from label to m (Present n at) = Finds h from label to m n (FoundAt at)
+LooksUp h from label to m (Absent n at) = Finds h from label to m n (Before at)
+LooksUp h from label to m (LookupRefused r) = changeRefusal h from label to m ≡ numberOf r
 
 -- all checks have passed, n edges stand, and the edge belongs before slot `at`
 pub record Places (h : Header) (from label to : ℕ) (m : Memory) (n at : ℕ) : Type 0 where

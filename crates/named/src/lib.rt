@@ -4,11 +4,18 @@ use edges::Found;
 use edges::Scanned;
 use model::Answer;
 use model::Refusal;
-ghost use Rattle.named.specs.Named.{Changes, Inserts, Removes};
+ghost use Rattle.named.specs.Named.{Changes, LooksUp, Inserts, Removes};
 
 // How many edges stand, or the refusal.
 enum Standing {
     Edges(usize),
+    Refused(Refusal),
+}
+
+// How many edges stand and the slot at which the named one stands, or before which it belongs; or the refusal.
+enum Lookup {
+    Present(usize, usize),
+    Absent(usize, usize),
     Refused(Refusal),
 }
 
@@ -54,6 +61,35 @@ fn check_change(
     Standing::Refused(Refusal::WorkMemory)
 }
 
+// The named edge looked up among those that stand, once the first checks have passed.
+fn look_up(
+    vertices: u32,
+    longest: u32,
+    from: u32,
+    label: u32,
+    to: u32,
+    edges: &[u32],
+    index: &[u64],
+    work: &[u64],
+) -> Lookup
+    ensures { λ r. ⌜
+        LooksUp (record { vertices = vertices; longest = longest }) from label to
+        (record { edges = now (edges .entry); index = now (index .entry); work = now (work .entry) }) r
+        ⌝ }
+{
+    let standing = check_change(vertices, longest, from, label, to, edges, index, work);
+    match standing {
+        Standing::Refused(refusal) => Lookup::Refused(refusal),
+        Standing::Edges(n) => {
+            let found = edges::find(edges, n, edges::edge_number(from, label, to));
+            match found {
+                Found::At(at) => Lookup::Present(n, at),
+                Found::Before(at) => Lookup::Absent(n, at),
+            }
+        }
+    }
+}
+
 // And then 7 9.
 pub fn check_insert(
     vertices: u32,
@@ -70,14 +106,11 @@ pub fn check_insert(
         (record { edges = now (edges .entry); index = now (index .entry); work = now (work .entry) }) r
         ⌝ }
 {
-    let standing = check_change(vertices, longest, from, label, to, edges, index, work);
-    match standing {
-        Standing::Refused(refusal) => Slot::Refused(refusal),
-        Standing::Edges(n) => {
-            let found = edges::find(edges, n, edges::edge_number(from, label, to));
-            let Found::Before(at) = found else {
-                return Slot::Refused(Refusal::EdgePresent);
-            };
+    let lookup = look_up(vertices, longest, from, label, to, edges, index, work);
+    match lookup {
+        Lookup::Refused(refusal) => Slot::Refused(refusal),
+        Lookup::Present(_, _) => Slot::Refused(Refusal::EdgePresent),
+        Lookup::Absent(n, at) => {
             if edges.len() <= n {
                 return Slot::Refused(Refusal::EdgeSlots);
             }
@@ -102,15 +135,10 @@ pub fn check_remove(
         (record { edges = now (edges .entry); index = now (index .entry); work = now (work .entry) }) r
         ⌝ }
 {
-    let standing = check_change(vertices, longest, from, label, to, edges, index, work);
-    match standing {
-        Standing::Refused(refusal) => Slot::Refused(refusal),
-        Standing::Edges(n) => {
-            let found = edges::find(edges, n, edges::edge_number(from, label, to));
-            let Found::At(at) = found else {
-                return Slot::Refused(Refusal::EdgeAbsent);
-            };
-            Slot::At(n, at)
-        }
+    let lookup = look_up(vertices, longest, from, label, to, edges, index, work);
+    match lookup {
+        Lookup::Refused(refusal) => Slot::Refused(refusal),
+        Lookup::Absent(_, _) => Slot::Refused(Refusal::EdgeAbsent),
+        Lookup::Present(n, at) => Slot::At(n, at),
     }
 }

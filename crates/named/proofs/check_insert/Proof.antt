@@ -1,74 +1,41 @@
--- `named::check_insert` meets its contract: the first checks, and then what the lookup of the named edge says.
-use mathlib.Core.Path.{_≡_, sym, ap, _∙_}
-use Prim.Native.Nat.{ℕ}
+-- `named::check_insert` meets its contract: what the lookup of the named edge says, and then whether a slot is left.
+use Rattle.named.proofs.Naming.{insert-stops, insert-present, insert-full, places}
 use borrow.Author.Needs.{needs}
-use lib.ListN.{take}
-use Rattle.model.specs.Edges.{edgeNumber}
-use Rattle.edges.specs.Memory.{findOf}
-use Rattle.named.specs.Named.{Passes}
-use Rattle.named.proofs.Naming.{insert-stops, insert-present, insert-full, places, numbered, searchable}
 use Rattle.named.proofs.check_insert.Statement.{statement}
 use Rattle.named.proofs.check_insert.Tie as tie
 
-abbrev start : tie.After-known-told2 → tie.Start
-start c = c .before .before .before .before .before .before .before
+look-up-requires : tie.Need-look-up-requires
+look-up-requires c κs = search needs
 
--- the checks 1 to 6 have passed
-passed : (c : tie.After-known-told2)
-    → Passes (record { vertices = start c .args .vertices; longest = start c .args .longest }) (start c .args .from) (start c .args .label) (start c .args .to)
-    (record { edges = start c .args .edges .now; index = start c .args .index .now; work = start c .args .work .now }) (c .before .standing2 .given .0 .0)
-passed c = rw (c .before .standing2 .given .1) at (c .before .before .before .check-change .ensures)
-
--- the lookup is that of the named edge
-looked : (c : tie.After-find)
-    → c .find .result ≡ findOf (edgeNumber (start (c .before .before) .args .from) (start (c .before .before) .args .label) (start (c .before .before) .args .to))
-    (take (c .before .before .before .standing2 .given .0 .0) (start (c .before .before) .args .edges .now))
-looked c = c .find .ensures ∙ ap (λ (x : ℕ). findOf x (take (c .before .before .before .standing2 .given .0 .0) (start (c .before .before) .args .edges .now))) (c .before .edge-number .ensures)
-
-check-change-requires : tie.Need-check-change-requires
-check-change-requires c κs = search needs
-
-enum-known-standing : tie.Need-enum-known-standing
-enum-known-standing c = search needs
-
-enum-known-standing-2 : tie.Need-enum-known-standing-2
-enum-known-standing-2 c = search needs
-
-edge-number-requires : tie.Need-edge-number-requires
-edge-number-requires c κs = numbered (passed c)
-
-find-requires : tie.Need-find-requires
-find-requires c κs = searchable (passed (c .before))
-
-enum-known-found : tie.Need-enum-known-found
-enum-known-found c = search needs
+enum-known-lookup : tie.Need-enum-known-lookup
+enum-known-lookup c = search needs
 
 enum-told : tie.Need-enum-told
 enum-told c = search needs
 
+enum-known-lookup-2 : tie.Need-enum-known-lookup-2
+enum-known-lookup-2 c = search needs
+
 returns : tie.Need-returns
-returns c = insert-present (passed (c .before .before .before .before)) (sym (looked (c .before .before)) ∙ c .enum-told .given .1)
+returns c = insert-full (rw (c .before .before .lookup2 .given .1) at (c .before .before .before .before .look-up .ensures)) (c .if1 .taken)
 
 returns-2 : tie.Need-returns-2
-returns-2 c = insert-full (passed (c .before .before .before .before .before .before)) (sym (looked (c .before .before .before .before)) ∙ c .before .before .found .given .1) (c .if1 .taken)
+returns-2 c = insert-stops _ _ _ _ _ (c .before .lookup .given .0 .0) (rw (c .before .lookup .given .1) at (c .before .before .before .look-up .ensures))
 
 returns-3 : tie.Need-returns-3
-returns-3 c = insert-stops _ _ _ _ _ (c .before .standing .given .0 .0) (rw (c .before .standing .given .1) at (c .before .before .before .check-change .ensures))
+returns-3 c = insert-present (rw (c .enum-told .given .1) at (c .before .before .look-up .ensures))
 
 returns-4 : tie.Need-returns-4
-returns-4 c = places (passed (c .before .before .before .before .before .before)) (sym (looked (c .before .before .before .before)) ∙ c .before .before .found .given .1) (c .if1 .left)
+returns-4 c = places (rw (c .before .before .lookup2 .given .1) at (c .before .before .before .before .look-up .ensures)) (c .if1 .left)
 
 pub check-insert-spec : {M : Type 1} → statement M
 check-insert-spec =
     tie.close
     (tie.spec
-    check-change-requires
-    enum-known-standing
-    enum-known-standing-2
-    edge-number-requires
-    find-requires
-    enum-known-found
+    look-up-requires
+    enum-known-lookup
     enum-told
+    enum-known-lookup-2
     returns
     returns-2
     returns-3

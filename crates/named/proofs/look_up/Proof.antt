@@ -1,0 +1,79 @@
+-- `named::look_up` meets its contract: the first checks, and then what the lookup of the named edge says.
+use mathlib.Core.Path.{sym, ap, _∙_}
+use Prim.Native.Nat.{ℕ}
+use lib.ListN.{take}
+use Rattle.edges.specs.Memory.{findOf}
+use Rattle.calls.specs.Change.{Header, Memory}
+use Rattle.named.specs.Named.{Passes, Finds}
+use Rattle.named.proofs.Naming.{numbered, searchable}
+use borrow.Author.Needs.{needs}
+use Rattle.named.proofs.look_up.Statement.{statement}
+use Rattle.named.proofs.look_up.Tie as tie
+
+abbrev start : tie.After-known-told2 → tie.Start
+start c = c .before .before .before .before .before .before .before
+
+abbrev header : tie.After-known-told2 → Header
+header c = record { vertices = start c .args .vertices; longest = start c .args .longest }
+
+abbrev memory : tie.After-known-told2 → Memory
+memory c = record { edges = start c .args .edges .now; index = start c .args .index .now; work = start c .args .work .now }
+
+-- the checks 1 to 6 have passed
+passed : (c : tie.After-known-told2) → Passes (header c) (start c .args .from) (start c .args .label) (start c .args .to) (memory c) (c .before .standing2 .given .0 .0)
+passed c = rw (c .before .standing2 .given .1) at (c .before .before .before .check-change .ensures)
+
+-- the lookup is that of the named edge
+looked : (c : tie.After-find) → Finds (header (c .before .before)) (start (c .before .before) .args .from) (start (c .before .before) .args .label)
+    (start (c .before .before) .args .to) (memory (c .before .before)) (c .before .before .before .standing2 .given .0 .0) (c .find .result)
+looked c =
+    let k = c .before .before in
+    record {
+      passes = passed k;
+      is = sym (c .find .ensures ∙ ap (λ (x : ℕ). findOf x (take (k .before .standing2 .given .0 .0) (start k .args .edges .now))) (c .before .edge-number .ensures));
+    }
+
+check-change-requires : tie.Need-check-change-requires
+check-change-requires c κs = search needs
+
+enum-known-standing : tie.Need-enum-known-standing
+enum-known-standing c = search needs
+
+enum-known-standing-2 : tie.Need-enum-known-standing-2
+enum-known-standing-2 c = search needs
+
+edge-number-requires : tie.Need-edge-number-requires
+edge-number-requires c κs = numbered (passed c)
+
+find-requires : tie.Need-find-requires
+find-requires c κs = searchable (passed (c .before))
+
+enum-known-found : tie.Need-enum-known-found
+enum-known-found c = search needs
+
+enum-known-found-2 : tie.Need-enum-known-found-2
+enum-known-found-2 c = search needs
+
+returns : tie.Need-returns
+returns c = rw (c .before .standing .given .1) at (c .before .before .before .check-change .ensures)
+
+returns-2 : tie.Need-returns-2
+returns-2 c = rw (c .before .found .given .1) at (looked (c .before .before .before))
+
+returns-3 : tie.Need-returns-3
+returns-3 c = rw (c .before .found2 .given .1) at (looked (c .before .before .before))
+
+pub look-up-spec : {M : Type 1} → statement M
+look-up-spec =
+    tie.close
+    (tie.spec
+    check-change-requires
+    enum-known-standing
+    enum-known-standing-2
+    edge-number-requires
+    find-requires
+    enum-known-found
+    enum-known-found-2
+    returns
+    returns-2
+    returns-3)
