@@ -1,4 +1,5 @@
-// The checks that calls share and that no other crate owns: the record (1 and 2), room to build (4), ends (5 and 10), and a label (6).
+// The checks that calls share: the record (1 and 2), then edge memory (3), room to build (4), ends (5 and 10), and a label (6).
+use edges::Scanned;
 use model::Answer;
 use model::Refusal;
 ghost use mathlib.Core.Path.{_≡_};
@@ -9,6 +10,7 @@ ghost use Rattle.model.specs.Replies.{answerOf};
 ghost use Rattle.model.specs.Edges.{label?};
 ghost use Rattle.model.specs.Limits.{leastWork};
 ghost use Rattle.calls.specs.Checks.{headerRefusal, longest?, ends?};
+ghost use Rattle.checks.specs.LayoutChecks.{Layouts};
 
 const MOST_VERTICES: u32 = 256;
 
@@ -17,6 +19,12 @@ const MOST_LONGEST: u32 = 4;
 const MOST_LABEL: u32 = 8;
 
 const LEAST_WORK: usize = 4096;
+
+// How many edges stand, or the refusal.
+pub enum Standing {
+    Edges(usize),
+    Refused(Refusal),
+}
 
 // Checks 1 and 2: vertices 1 to 256, longest pattern 1 to 4.
 pub fn check_header(vertices: u32, longest: u32) -> Answer
@@ -35,6 +43,21 @@ pub fn check_header(vertices: u32, longest: u32) -> Answer
         return Answer::Refused(Refusal::Longest);
     }
     Answer::Accepted
+}
+
+// Checks 1, 2 and 3, with which calls on edges begin.
+pub fn check_layout(vertices: u32, longest: u32, edges: &[u32]) -> Standing
+    ensures { λ r. ⌜ Layouts vertices longest (now (edges .entry)) r ⌝ }
+{
+    let header = check_header(vertices, longest);
+    if let Answer::Refused(refusal) = header {
+        return Standing::Refused(refusal);
+    }
+    let scanned = edges::scan(vertices, edges);
+    let Scanned::Edges(n) = scanned else {
+        return Standing::Refused(Refusal::EdgeMemory);
+    };
+    Standing::Edges(n)
 }
 
 // Check 2 alone, for a card, whose vertices are 1 to 256 in any case.

@@ -1,5 +1,5 @@
 -- From what the checks leave to the search, and from what it finds to the call's reply.
-use mathlib.Core.Path.{_≡_, sym, ap, _∙_}
+use mathlib.Core.Path.{_≡_, ap, _∙_}
 use mathlib.Core.List.{List}
 use Prim.Native.Nat.{ℕ, _≤_}
 use native.Mathlib.Omega.{arith}
@@ -10,17 +10,18 @@ use Rattle.model.specs.Edges.{standing}
 use Rattle.model.specs.declared.SearchReply.{SearchReply}
 use Rattle.model.proofs.Patterns.{keyed-up, folded-length, folded-take, repeat-long, repeat-short}
 use Rattle.model.proofs.Search.{reply-as}
-use Rattle.edges.proofs.Memory.{Scans, scans}
+use Rattle.edges.proofs.Memory.{Scans}
+use Rattle.checks.proofs.LayoutChecks.{layout-header, layout-memory}
 use Rattle.calls.specs.Search.{searchCall, SearchMeets}
 use Rattle.calls.proofs.Search.{search-accepted}
-use Rattle.level_search.specs.Run.{Passes, Searchable, Finds, foundBy}
+use Rattle.level_search.specs.Run.{Passes, Searchable, Finds}
 
 module _ {vertices longest s t : ℕ} {pattern edges work : List ℕ} {n : ℕ} (p : Passes vertices longest s t pattern edges work n) (size : ℕ) (is : size ≡ foldedLength pattern) where
   edge-memory : Scans vertices edges n
-  edge-memory = scans vertices edges (p .scanned)
+  edge-memory = layout-memory (p .layout)
 
   keyed : Keyed mostLongest pattern
-  keyed = keyed-up (p .longest-small) (p .keyed)
+  keyed = keyed-up (layout-header (p .layout) .longest-most) (p .keyed)
 
   -- the minimum repeat is a part of the pattern
   folded : size ≡ length (minRepeat pattern)
@@ -37,7 +38,7 @@ module _ {vertices longest s t : ℕ} {pattern edges work : List ℕ} {n : ℕ} 
 
   pub searchable : Searchable vertices (take n edges) (take size pattern) s t
   searchable = rw (edge-memory .front, front) (record {
-    vertices-small = p .vertices-small;
+    vertices-small = layout-header (p .layout) .vertices-most;
     rises = edge-memory .rising;
     valid = edge-memory .edges;
     short = record { least = repeat-long pattern (p .keyed .long); most = omega (arith, repeat-short pattern (p .keyed .long), keyed .short) };

@@ -1,22 +1,21 @@
 -- What the level search needs, and what it replies.
 use mathlib.Core.Path.{_≡_}
-use mathlib.Core.Bool.{Bool, true}
+use mathlib.Core.Bool.{true}
 use mathlib.Core.List.{List}
 use Prim.Native.Nat.{ℕ, _≤_, _<_}
 use lib.ListN.{length}
 use Rattle.model.specs.Lists.{_∈_, Rising, zeroed}
-use Rattle.model.specs.Limits.{mostVertices, mostLongest, leastWork}
-use Rattle.model.specs.Edges.{bare, Graph, edge?}
+use Rattle.model.specs.Limits.{mostVertices, leastWork}
+use Rattle.model.specs.Edges.{bare, edge?}
 use Rattle.model.specs.Patterns.{Keyed}
 use Rattle.model.specs.Levels.{Reply, levelReply}
 use Rattle.model.specs.Replies.{numberOf, replyOf}
 use Rattle.model.specs.declared.SearchReply.{SearchReply}
-use Rattle.edges.specs.Memory.{scanOf}
-use Rattle.edges.specs.declared.Scanned.the-variants.{Edges}
 use Rattle.calls.specs.Search.{searchRefusal}
+use Rattle.checks.specs.declared.Standing.{Standing}
+use Rattle.checks.specs.declared.Standing.the-variants.{Edges, Refused}
+use Rattle.checks.specs.LayoutChecks.{LayoutPasses}
 use Rattle.level_search.specs.Work.{Short}
-use Rattle.level_search.specs.declared.Checked.{Checked}
-use Rattle.level_search.specs.declared.Checked.the-variants.{Refused, Passed}
 
 -- a search over rising edges of a graph with that many vertices, from one vertex to another, by a pattern of 1 to 4 labels
 pub record Searchable (vertices : ℕ) (edges l : List ℕ) (s t : ℕ) : Type 0 where
@@ -40,14 +39,12 @@ pub record Finds (vertices : ℕ) (edges l : List ℕ) (s t limit : ℕ) (work :
 -- all have passed, and n edges stand
 pub record Passes (vertices longest start destination : ℕ) (pattern edges work : List ℕ) (n : ℕ) : Type 0 where
   pub is : searchRefusal vertices longest start destination pattern edges work ≡ 0
-  pub vertices-small : vertices ≤ mostVertices
-  pub longest-small : longest ≤ mostLongest
-  pub scanned : scanOf vertices edges ≡ Edges n
+  pub layout : LayoutPasses vertices longest edges n
   pub room : leastWork ≤ length work
   pub start-vertex : start < vertices
   pub destination-vertex : destination < vertices
   pub keyed : Keyed longest pattern
 
-abbrev pub Checks : (vertices longest start destination : ℕ) (pattern edges work : List ℕ) → Checked → Type 0
+abbrev pub Checks : (vertices longest start destination : ℕ) (pattern edges work : List ℕ) → Standing → Type 0
 Checks vertices longest start destination pattern edges work (Refused r) = searchRefusal vertices longest start destination pattern edges work ≡ numberOf r
-Checks vertices longest start destination pattern edges work (Passed n) = Passes vertices longest start destination pattern edges work n
+Checks vertices longest start destination pattern edges work (Edges n) = Passes vertices longest start destination pattern edges work n

@@ -1,6 +1,5 @@
 // The level search (plain check): levels of states, a state being labels used * 256 + vertex, and the call with its checks.
-use edges::Scanned;
-use model::Answer;
+use checks::Standing;
 use model::Refusal;
 use model::SearchReply;
 ghost use mathlib.Core.Path.{_≡_};
@@ -151,12 +150,6 @@ pub fn run(
     reply
 }
 
-// What the call's checks find: the first refusal, or how many edges stand.
-enum Checked {
-    Refused(Refusal),
-    Passed(usize),
-}
-
 // The checks 1 2 3 4 10 11, in that order.
 fn check(
     vertices: u32,
@@ -166,27 +159,23 @@ fn check(
     pattern: &[u8],
     edges: &[u32],
     work: &[u64],
-) -> Checked
+) -> Standing
     ensures { λ r. ⌜ Checks vertices longest start destination (now (pattern .entry)) (now (edges .entry)) (now (work .entry)) r ⌝ }
 {
-    let header = checks::check_header(vertices, longest);
-    if let Answer::Refused(refusal) = header {
-        return Checked::Refused(refusal);
-    }
-    let scanned = edges::scan(vertices, edges);
-    let Scanned::Edges(n) = scanned else {
-        return Checked::Refused(Refusal::EdgeMemory);
+    let layout = checks::check_layout(vertices, longest, edges);
+    let Standing::Edges(n) = layout else {
+        return layout;
     };
     if work.len() < WORK {
-        return Checked::Refused(Refusal::WorkMemory);
+        return Standing::Refused(Refusal::WorkMemory);
     }
     if checks::are_vertices(vertices, start, destination) {
         if patterns::is_keyed(longest, pattern) {
-            return Checked::Passed(n);
+            return Standing::Edges(n);
         }
-        return Checked::Refused(Refusal::QueryPattern);
+        return Standing::Refused(Refusal::QueryPattern);
     }
-    Checked::Refused(Refusal::QueryEnd)
+    Standing::Refused(Refusal::QueryEnd)
 }
 
 // The plain check for all inputs. The pattern is folded to its minimum repeat once its length is checked.
@@ -204,8 +193,8 @@ pub fn search(
 {
     let checked = check(vertices, longest, start, destination, pattern, edges, work);
     match checked {
-        Checked::Refused(refusal) => SearchReply::Refused(refusal),
-        Checked::Passed(n) => {
+        Standing::Refused(refusal) => SearchReply::Refused(refusal),
+        Standing::Edges(n) => {
             let folded = patterns::minimum_repeat(pattern);
             let length = folded.length;
             run(

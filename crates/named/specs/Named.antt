@@ -8,8 +8,8 @@ use Rattle.calls.specs.Change.{Header, Memory, changeRefusal, insertRefusal, re
 use Rattle.edges.specs.Memory.{findOf, Insertable, Removable}
 use Rattle.edges.specs.declared.Found.{Found}
 use Rattle.edges.specs.declared.Found.the-variants.{At as FoundAt, Before}
-use Rattle.named.specs.declared.Standing.{Standing}
-use Rattle.named.specs.declared.Standing.the-variants.{Edges, Refused}
+use Rattle.checks.specs.declared.Standing.{Standing}
+use Rattle.checks.specs.declared.Standing.the-variants.{Edges, Refused}
 use Rattle.named.specs.declared.Lookup.{Lookup}
 use Rattle.named.specs.declared.Lookup.the-variants.{Present, Absent, Refused as LookupRefused}
 use Rattle.named.specs.declared.Slot.{Slot}

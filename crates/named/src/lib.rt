@@ -1,16 +1,9 @@
 // The checks of an insertion (laying) and a removal (lifting): record, memory and the named edge, in document 01's order. They read only, and
 // find the slot of the named edge.
+use checks::Standing;
 use edges::Found;
-use edges::Scanned;
-use model::Answer;
 use model::Refusal;
 ghost use Rattle.named.specs.Named.{Changes, LooksUp, Inserts, Removes};
-
-// How many edges stand, or the refusal.
-enum Standing {
-    Edges(usize),
-    Refused(Refusal),
-}
 
 // How many edges stand and the slot at which the named one stands, or before which it belongs; or the refusal.
 enum Lookup {
@@ -41,13 +34,9 @@ fn check_change(
         (record { edges = now (edges .entry); index = now (index .entry); work = now (work .entry) }) r
         ⌝ }
 {
-    let header = checks::check_header(vertices, longest);
-    if let Answer::Refused(refusal) = header {
-        return Standing::Refused(refusal);
-    }
-    let scanned = edges::scan(vertices, edges);
-    let Scanned::Edges(n) = scanned else {
-        return Standing::Refused(Refusal::EdgeMemory);
+    let layout = checks::check_layout(vertices, longest, edges);
+    let Standing::Edges(n) = layout else {
+        return layout;
     };
     if checks::has_room(index.len(), work.len()) {
         if checks::are_vertices(vertices, from, to) {

@@ -1,14 +1,13 @@
 -- From the public calls to their C forms.
-use mathlib.Core.Path.{_≡_, refl, sym, ap, _∙_}
-use mathlib.Core.Bool.{Bool, true, false, cond}
+use mathlib.Core.Path.{_≡_, refl, ap, _∙_}
+use mathlib.Core.Bool.{true, false, cond}
 use mathlib.Core.List.{List, [], _∷_}
-use Prim.Native.Nat.{ℕ, _*_, _^_, _≤_, _<_}
+use Prim.Native.Nat.{ℕ, _*_, _^_, _≤_}
 use native.Mathlib.Decide.{decLt}
 use native.Mathlib.Omega.{arith}
-use lib.Dec.{eqb}
 use lib.ListN.{length, drop, set}
 use Rattle.model.specs.Limits.{mostLongest}
-use Rattle.model.specs.Patterns.{keyed?, foldedLength, minRepeat}
+use Rattle.model.specs.Patterns.{foldedLength}
 use Rattle.model.specs.Replies.{numberOf, answerOf, replyOf}
 use Rattle.model.specs.Query.{Answered}
 use Rattle.model.specs.declared.Refusal.{Refusal}
@@ -17,14 +16,14 @@ use Rattle.model.specs.declared.Answer.{Answer}
 use Rattle.model.proofs.Tests.{test-true, test-false, test-eq, by-test}
 use Rattle.model.proofs.Patterns.{test-keyed, folded}
 use Rattle.model.proofs.Replies.{number-some}
-use Rattle.calls.specs.Change.{Header, Memory, Handed, back, none, Change, numbersOf, Leaves}
+use Rattle.calls.specs.Change.{Header, Memory, back, none, Change, numbersOf, Leaves}
 use Rattle.calls.specs.Search.{Searched, SearchMeets}
 use Rattle.calls.specs.Card.{headBytes, headerOf, edgesOf, readRefusal, readCall, Written as CardWritten}
 use Rattle.calls.proofs.Settling.{Result, settledChange, settled}
 use Rattle.store.specs.Store.{numbers, Meets, wroteOf, WriteMeets}
 use Rattle.store.specs.declared.Changed.{Changed}
 use Rattle.store.specs.declared.Written.{Written}
-use Rattle.rlc_c.specs.Interface.{two?, otherRecord, handedTo, HandsBack, ChangesInC, answeredInC, repliedInC, SearchesInC, wroteInC, WritesInC}
+use Rattle.rlc_c.specs.Interface.{two?, otherRecord, HandsBack, ChangesInC, answeredInC, repliedInC, SearchesInC, wroteInC, WritesInC}
 
 -- a record of another length
 pub other : (words : List ℕ) → (length words ≡ 2 → ⊥) → two? words ≡ false

@@ -1,18 +1,18 @@
 -- What a call hands back and leaves: the header, the answer and memory are the definition's.
 use mathlib.Core.Path.{_≡_}
 use mathlib.Core.List.{List}
-use Prim.Native.Nat.{ℕ}
+use Prim.Native.Nat.{ℕ, _+_, _*_, _≤_}
+use lib.ListN.{length}
 use Rattle.model.specs.Replies.{numberOf}
-use Rattle.edges.specs.Memory.{scanOf}
-use Rattle.edges.specs.declared.Scanned.the-variants.{Edges}
+use Rattle.checks.specs.declared.Standing.{Standing}
+use Rattle.checks.specs.declared.Standing.the-variants.{Edges, Refused as NotStanding}
+use Rattle.checks.specs.LayoutChecks.{LayoutPasses}
 use Rattle.calls.specs.Change.{Header as Numbers, Change, numbersOf, Leaves}
-use Rattle.calls.specs.Card.{Wrote, Length as WroteLength, Refused as WroteRefused, Written as CardWritten, writeRefusal}
+use Rattle.calls.specs.Card.{headBytes, Wrote, Length as WroteLength, Refused as WroteRefused, Written as CardWritten, writeRefusal}
 use Rattle.store.specs.declared.Header.{Header}
 use Rattle.store.specs.declared.Changed.{Changed}
 use Rattle.store.specs.declared.Written.{Written}
 use Rattle.store.specs.declared.Written.the-variants.{Length, Refused}
-use Rattle.store.specs.declared.Writing.{Writing}
-use Rattle.store.specs.declared.Writing.the-variants.{Edges as WritingEdges, Refused as WritingRefused}
 
 -- the numbers of a header
 abbrev pub numbers : Header → Numbers
@@ -36,8 +36,9 @@ pub record WriteMeets (call : CardWritten) (r : Written) (output : List ℕ) : T
 -- all checks of a written card have passed, and n edges stand
 pub record Writes (h : Numbers) (edges output : List ℕ) (n : ℕ) : Type 0 where
   pub is : writeRefusal h edges output ≡ 0
-  pub scanned : scanOf (h .vertices) edges ≡ Edges n
+  pub layout : LayoutPasses (h .vertices) (h .longest) edges n
+  pub room : headBytes + 3 * n ≤ length output
 
-abbrev pub Writings : (h : Numbers) (edges output : List ℕ) → Writing → Type 0
-Writings h edges output (WritingEdges n) = Writes h edges output n
-Writings h edges output (WritingRefused r) = writeRefusal h edges output ≡ numberOf r
+abbrev pub Writings : (h : Numbers) (edges output : List ℕ) → Standing → Type 0
+Writings h edges output (Edges n) = Writes h edges output n
+Writings h edges output (NotStanding r) = writeRefusal h edges output ≡ numberOf r

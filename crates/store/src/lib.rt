@@ -1,6 +1,6 @@
 // The store as firmware sees it: every call of document 01, for all inputs. Opening, insertion (laying) and removal (lifting) are operations
 // of the header (record): each takes it and hands it back with the answer.
-use edges::Scanned;
+use checks::Standing;
 use model::Answer;
 use model::QueryReply;
 use model::Refusal;
@@ -34,12 +34,6 @@ pub struct Changed {
 // The length of a written card, or the refusal.
 pub enum Written {
     Length(usize),
-    Refused(Refusal),
-}
-
-// How many edges stand that a card is written of, or the refusal.
-enum Writing {
-    Edges(usize),
     Refused(Refusal),
 }
 
@@ -143,21 +137,17 @@ pub fn read_card(card: &[u8], edges: &mut [u32], index: &mut [u64], work: &mut [
 }
 
 // The checks of a card that is written: 1 2 3 17.
-fn check_write(vertices: u32, longest: u32, edges: &[u32], output: &[u8]) -> Writing
+fn check_write(vertices: u32, longest: u32, edges: &[u32], output: &[u8]) -> Standing
     ensures { λ r. ⌜ Writings (record { vertices = vertices; longest = longest }) (now (edges .entry)) (now (output .entry)) r ⌝ }
 {
-    let header = checks::check_header(vertices, longest);
-    if let Answer::Refused(refusal) = header {
-        return Writing::Refused(refusal);
-    }
-    let scanned = edges::scan(vertices, edges);
-    let Scanned::Edges(n) = scanned else {
-        return Writing::Refused(Refusal::EdgeMemory);
+    let layout = checks::check_layout(vertices, longest, edges);
+    let Standing::Edges(n) = layout else {
+        return layout;
     };
     if output.len() < HEAD + 3 * n {
-        return Writing::Refused(Refusal::CardOutput);
+        return Standing::Refused(Refusal::CardOutput);
     }
-    Writing::Edges(n)
+    Standing::Edges(n)
 }
 
 // Writes the layout card to the front of the output, and returns its length.
@@ -166,10 +156,10 @@ pub fn write_card(header: Header, edges: &[u32], output: &mut [u8]) -> Written
 {
     let vertices = header.vertices;
     let longest = header.longest;
-    let writing = check_write(vertices, longest, edges, output);
-    match writing {
-        Writing::Refused(refusal) => Written::Refused(refusal),
-        Writing::Edges(n) => {
+    let standing = check_write(vertices, longest, edges, output);
+    match standing {
+        Standing::Refused(refusal) => Written::Refused(refusal),
+        Standing::Edges(n) => {
             card::write(vertices, longest, &edges[..n], output);
             Written::Length(HEAD + 3 * n)
         }

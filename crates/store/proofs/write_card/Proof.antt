@@ -12,17 +12,17 @@ abbrev start : tie.After-known-told2 → tie.Start
 start c = c .before .before .before .before .before .before .before
 
 -- all checks have passed
-passed : (c : tie.After-known-told2) → Writes (numbers (start c .args .header)) (start c .args .edges .now) (start c .args .output .now) (c .before .writing2 .given .0 .0)
-passed c = rw (c .before .writing2 .given .1) at (c .before .before .before .check-write .ensures)
+passed : (c : tie.After-known-told2) → Writes (numbers (start c .args .header)) (start c .args .edges .now) (start c .args .output .now) (c .before .standing2 .given .0 .0)
+passed c = rw (c .before .standing2 .given .1) at (c .before .before .before .check-write .ensures)
 
 check-write-requires : tie.Need-check-write-requires
 check-write-requires c κs = search needs
 
-enum-known-writing : tie.Need-enum-known-writing
-enum-known-writing c = search needs
+enum-known-standing : tie.Need-enum-known-standing
+enum-known-standing c = search needs
 
-enum-known-writing-2 : tie.Need-enum-known-writing-2
-enum-known-writing-2 c = search needs
+enum-known-standing-2 : tie.Need-enum-known-standing-2
+enum-known-standing-2 c = search needs
 
 slice-aggregate-write : tie.Need-slice-aggregate-write
 slice-aggregate-write c = sym (length-take-le _ (start (c .before) .args .edges .now) (memory (passed (c .before)) .within))
@@ -40,7 +40,7 @@ same-length : tie.Need-same-length
 same-length c = search needs
 
 returns : tie.Need-returns
-returns c = write-stops _ _ _ (c .before .writing .given .0 .0) (rw (c .before .writing .given .1) at (c .before .before .before .check-write .ensures))
+returns c = write-stops _ _ _ (c .before .standing .given .0 .0) (rw (c .before .standing .given .1) at (c .before .before .before .check-write .ensures))
 
 same-length-2 : tie.Need-same-length-2
 same-length-2 c = search needs
@@ -53,8 +53,8 @@ write-card-spec =
     tie.close
     (tie.spec
     check-write-requires
-    enum-known-writing
-    enum-known-writing-2
+    enum-known-standing
+    enum-known-standing-2
     slice-aggregate-write
     write-requires
     mul-t17
