@@ -5,7 +5,6 @@ use mathlib.Core.Bool.{true}
 use mathlib.Core.List.{List}
 use Prim.Native.Nat.{ℕ, _+_, _-_}
 use native.Mathlib.Omega.{arith}
-use lib.ListN.{length}
 use Rattle.model.specs.Lists.{zeroed}
 use Rattle.model.specs.Edges.{edgeNumber, edge?, standing, insertEdge, removeEdge}
 use Rattle.model.specs.Replies.{numberOf}
@@ -59,12 +58,13 @@ module _ {h : Header} {from label to : ℕ} {m : Memory} where
       })
 
   module _ {n at : ℕ} where
-    pub insert-wanted : Places h from label to m n at → Wanted h (insertEdge (edgeNumber from label to) (standing (m .edges))) m
+    pub insert-wanted : Places h from label to m n at → Wanted h (insertEdge (edgeNumber from label to) (standing (m .edges))) m (n + 1)
     insert-wanted p =
         let x : ℕ = edgeNumber from label to in
         let g = good (p .passes) in
         let s = memory (p .passes) in
         record {
+          count = omega (arith, length-insert x (standing (m .edges)), p .passes .count);
           header = g .header;
           few = s .slots;
           fits = omega (arith, length-insert x (standing (m .edges)), s .count, p .place .room);
@@ -73,21 +73,19 @@ module _ {h : Header} {from label to : ℕ} {m : Memory} where
           room = g .room;
         }
 
-    pub insert-count : Places h from label to m n at → n + 1 ≡ length (insertEdge (edgeNumber from label to) (standing (m .edges)))
-    insert-count p = omega (arith, length-insert (edgeNumber from label to) (standing (m .edges)), p .passes .count)
-
     pub insert-leaves : Places h from label to m n at → {r : Answer} {edges index work : List ℕ}
         → Leaves (settle (back h) h (insertEdge (edgeNumber from label to) (standing (m .edges))) m) r edges index work
         → Leaves (insertCall h from label to m) r edges index work
     unfolding insertCall
     insert-leaves p l = rw (change-accepted (insertRefusal h from label to m) (back h) m _ (p .is)) l
 
-    pub remove-wanted : Takes h from label to m n at → Wanted h (removeEdge (edgeNumber from label to) (standing (m .edges))) m
+    pub remove-wanted : Takes h from label to m n at → Wanted h (removeEdge (edgeNumber from label to) (standing (m .edges))) m (n - 1)
     remove-wanted p =
         let x : ℕ = edgeNumber from label to in
         let g = good (p .passes) in
         let s = memory (p .passes) in
         record {
+          count = omega (arith, length-remove x (standing (m .edges)) (takes-present p), p .passes .count);
           header = g .header;
           few = s .slots;
           fits = omega (arith, length-remove x (standing (m .edges)) (takes-present p), s .count, s .within);
@@ -95,9 +93,6 @@ module _ {h : Header} {from label to : ℕ} {m : Memory} where
           valid = λ z k. s .edges z (member-remove x (standing (m .edges)) (s .rising) z .0 k .0);
           room = g .room;
         }
-
-    pub remove-count : Takes h from label to m n at → n - 1 ≡ length (removeEdge (edgeNumber from label to) (standing (m .edges)))
-    remove-count p = omega (arith, length-remove (edgeNumber from label to) (standing (m .edges)) (takes-present p), p .passes .count)
 
     pub remove-leaves : Takes h from label to m n at → {r : Answer} {edges index work : List ℕ}
         → Leaves (settle (back h) h (removeEdge (edgeNumber from label to) (standing (m .edges))) m) r edges index work

@@ -87,17 +87,15 @@ pub leaves-as : {c : Change} {r r′ : Answer} {edges index work : List ℕ} →
 leaves-as e l = record { answer = ap answerOf (sym e) ∙ l .answer; edges-after = l .edges-after; index-after = l .index-after; work-after = l .work-after }
 
 module _ {card : List ℕ} {m : Memory} {h : Header} {n : ℕ} (p : Reads card m h n) where
-  pub read-count : n ≡ length (edgesOf (drop headBytes card))
-  read-count = p .count ∙ sym (good card m (p .is) .alone .count)
-
   pub read-fillable : Fillable card n (m .edges)
   read-fillable = rw (p .count) (record { whole = good card m (p .is) .alone .whole; room = good card m (p .is) .fits })
 
   -- the byte of the vertices is a byte
-  pub read-wanted : getD card 5 0 < 256 → Wanted h (edgesOf (drop headBytes card)) m
+  pub read-wanted : getD card 5 0 < 256 → Wanted h (edgesOf (drop headBytes card)) m n
   read-wanted b = rw (p .header) (let g = good card m (p .is) in
       let l = triples-good (headerOf card .vertices) 0 (drop headBytes card) (g .alone .triples) (omega (arith, b)) in
       record {
+        count = p .count ∙ sym (g .alone .count);
         header = record { vertices-least = omega arith; vertices-most = omega (arith, b); longest-least = g .alone .longest-least; longest-most = g .alone .longest-most };
         few = g .few;
         fits = omega (arith, g .alone .count, g .fits);

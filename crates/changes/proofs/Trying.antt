@@ -17,8 +17,9 @@ use Rattle.calls.proofs.Checks.{Header as Bounds}
 use Rattle.calls.proofs.Change.{settle-same}
 use Rattle.settle.specs.Settle.{savedIn, Saves, Settleable, Settles}
 
--- the wanted edges, and memory as the call finds it
-pub record Wanted (h : Header) (wanted : List ℕ) (m : Memory) : Type 0 where
+-- n wanted edges, and memory as the call finds it
+pub record Wanted (h : Header) (wanted : List ℕ) (m : Memory) (n : ℕ) : Type 0 where
+  pub count : n ≡ length wanted
   pub header : Bounds (h .vertices) (h .longest)
   pub few : length (m .edges) ≤ mostEdges
   pub fits : length wanted ≤ length (m .edges)
@@ -26,24 +27,23 @@ pub record Wanted (h : Header) (wanted : List ℕ) (m : Memory) : Type 0 where
   pub valid : (x : ℕ) → x ∈ wanted → edge? (h .vertices) x ≡ true
   pub room : leastWork + length (m .index) ≤ length (m .work)
 
--- n wanted edges stand in edge memory, and work memory keeps what stood there before
-pub record Tried (wanted : List ℕ) (m : Memory) (n : ℕ) (edges work : List ℕ) : Type 0 where
-  pub count : n ≡ length wanted
+-- the wanted edges stand in edge memory, and work memory keeps what stood there before
+pub record Tried (wanted : List ℕ) (m : Memory) (edges work : List ℕ) : Type 0 where
   pub edges-are : edges ≡ filled (length (m .edges)) wanted
   pub saves : Saves (m .edges) (m .work) work
 
 -- edge memory can be saved
-pub save-room : {h : Header} {wanted : List ℕ} {m : Memory} → Wanted h wanted m → savedNumbers + length (m .edges) ≤ length (m .work)
+pub save-room : {h : Header} {wanted : List ℕ} {m : Memory} {n : ℕ} → Wanted h wanted m n → savedNumbers + length (m .edges) ≤ length (m .work)
 save-room w = omega (arith, w .few, w .room)
 
 -- ---- settling
 
-module _ {h : Header} {wanted : List ℕ} {m : Memory} {n : ℕ} {edges work : List ℕ} (w : Wanted h wanted m) (t : Tried wanted m n edges work) where
+module _ {h : Header} {wanted : List ℕ} {m : Memory} {n : ℕ} {edges work : List ℕ} (w : Wanted h wanted m n) (t : Tried wanted m edges work) where
   long : length edges ≡ length (m .edges)
   long = ap length (t .edges-are) ∙ length-filled (length (m .edges)) wanted (w .fits)
 
   front : take n edges ≡ wanted
-  front = ap (take n) (t .edges-are) ∙ take-at wanted _ n (sym (t .count))
+  front = ap (take n) (t .edges-are) ∙ take-at wanted _ n (sym (w .count))
 
   saved-is : savedIn work edges ≡ m .edges
   saved-is = ap (λ (k : ℕ). take k (drop savedNumbers work)) long ∙ t .saves .saved
@@ -55,7 +55,7 @@ module _ {h : Header} {wanted : List ℕ} {m : Memory} {n : ℕ} {edges work : L
         longest-least = w .header .longest-least;
         longest-most = w .header .longest-most;
         few = omega (arith, long, w .few);
-        fits = omega (arith, long, t .count, w .fits);
+        fits = omega (arith, long, w .count, w .fits);
         zeros = rw (long, front) (t .edges-are);
         rises = rw front (w .rises);
         valid = λ x k. w .valid x (rw front at k);

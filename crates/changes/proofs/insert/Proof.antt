@@ -1,5 +1,5 @@
 -- `changes::insert` meets its contract: a refusal leaves memory alone; else edge memory is saved, the insertion made and settled.
-use mathlib.Core.Path.{_≡_, ap, _∙_}
+use mathlib.Core.Path.{ap, _∙_}
 use mathlib.Core.List.{List}
 use Prim.Native.Nat.{ℕ}
 use native.Mathlib.Omega.{arith}
@@ -11,7 +11,7 @@ use Rattle.calls.specs.Change.{Header, Memory, back}
 use Rattle.named.specs.Named.{Places}
 use Rattle.named.proofs.Naming.{numbered}
 use Rattle.changes.proofs.Trying.{Tried, save-room, settleable, settled}
-use Rattle.changes.proofs.Calls.{insert-stops, insert-wanted, insert-count, insert-leaves}
+use Rattle.changes.proofs.Calls.{insert-stops, insert-wanted, insert-leaves}
 use Rattle.changes.proofs.insert.Statement.{statement}
 use Rattle.changes.proofs.insert.Tie as tie
 
@@ -37,13 +37,12 @@ passed c = rw (c .before .slot2 .given .1) at (c .before .before .before .check-
 abbrev checked : tie.After-slice-known5 → tie.After-known-told2
 checked c = c .before .before .before .before .before .before .before .before .before .before
 
-tried : (c : tie.After-slice-known5) {n : ℕ} → n ≡ length (wanted (checked c))
-    → Tried (wanted (checked c)) (memory (checked c)) n (c .before .before .insert .last .0)
+tried : (c : tie.After-slice-known5)
+    → Tried (wanted (checked c)) (memory (checked c)) (c .before .before .insert .last .0)
     (c .before .before .before .before .before .before .before .save .last .1 .0)
-tried c count =
+tried c =
     let m = memory (checked c) in
     record {
-      count = count;
       edges-are =
           c .before .before .insert .ensures
           ∙ ap (λ (x : ℕ). filled (length (m .edges)) (insertEdge x (standing (m .edges)))) (c .before .before .before .edge-number .ensures);
@@ -73,8 +72,8 @@ add-settle c = omega (arith, passed (checked c) .place .room, insert-wanted (pas
 
 settle-requires : tie.Need-settle-requires
 settle-requires c κs =
-    let p = passed (checked (c .before .before .before)) in
-    settleable (insert-wanted p) (tried (c .before .before .before) (omega (arith, insert-count p)))
+    let k = c .before .before .before in
+    settleable (insert-wanted (passed (checked k))) (tried k)
 
 same-length : tie.Need-same-length
 same-length c = search needs
@@ -102,7 +101,7 @@ returns-2 c =
     let settle = c .before .before .before .before .before .before in
     let k = settle .before .before .before .before in
     let p = passed (checked k) in
-    insert-leaves p (settled (insert-wanted p) (tried k (insert-count p)) (back (header (checked k))) (settle .settle .ensures))
+    insert-leaves p (settled (insert-wanted p) (tried k) (back (header (checked k))) (settle .settle .ensures))
 
 pub insert-spec : {M : Type 1} → statement M
 insert-spec =

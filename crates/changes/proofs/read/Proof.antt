@@ -9,7 +9,7 @@ use Rattle.calls.specs.Change.{Header, Memory, none, numbersOf, Leaves, settle}
 use Rattle.calls.specs.Card.{headBytes, edgesOf}
 use Rattle.changes.specs.Changes.{Reads}
 use Rattle.changes.proofs.Trying.{Wanted, Tried, save-room, settleable, settled}
-use Rattle.changes.proofs.Reading.{read-count, read-fillable, read-wanted, read-leaves, read-hands, leaves-as, refused-leaves, refused-none}
+use Rattle.changes.proofs.Reading.{read-fillable, read-wanted, read-leaves, read-hands, leaves-as, refused-leaves, refused-none}
 use Rattle.changes.proofs.read.Statement.{statement}
 use Rattle.changes.proofs.read.Tie as tie
 
@@ -30,7 +30,7 @@ cardEdges c = edgesOf (drop headBytes (start c .args .card .now))
 passed : (c : tie.After-known-told2) → Reads (start c .args .card .now) (memory c) (header c) (c .before .layout2 .given .0 .1 .1 .0)
 passed c = rw (c .before .layout2 .given .1) at (c .before .before .before .check-read .ensures)
 
-wanted : (c : tie.After-known-told2) → Wanted (header c) (cardEdges c) (memory c)
+wanted : (c : tie.After-known-told2) → Wanted (header c) (cardEdges c) (memory c) (c .before .layout2 .given .0 .1 .1 .0)
 wanted c = read-wanted (passed c) (omega (arith, c .before .before .before .before .before .before .before .before .before .before .shared-slice-known .given 5))
 
 -- where edge memory is filled
@@ -38,11 +38,10 @@ abbrev checked : tie.After-slice-known5 → tie.After-known-told2
 checked c = c .before .before .before .before .before .before .before .before .before
 
 tried : (c : tie.After-slice-known5)
-    → Tried (cardEdges (checked c)) (memory (checked c)) (checked c .before .layout2 .given .0 .1 .1 .0) (c .before .before .fill .last .1 .1 .0)
+    → Tried (cardEdges (checked c)) (memory (checked c)) (c .before .before .fill .last .1 .1 .0)
     (c .before .before .before .before .before .before .save .last .1 .0)
 tried c =
     record {
-      count = read-count (passed (checked c));
       edges-are = c .before .before .fill .ensures;
       saves = c .before .before .before .before .before .before .save .ensures;
     }
