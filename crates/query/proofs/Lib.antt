@@ -1,5 +1,5 @@
 pub mod Codes
-pub mod Limits
+pub mod Fields
 pub mod Scanning
 pub mod Skimming
 pub mod Joining

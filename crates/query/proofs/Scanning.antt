@@ -5,6 +5,7 @@ use mathlib.Core.List.{List}
 use Prim.Native.Nat.{ℕ, _+_, _-_, _≤_, _<_}
 use native.Mathlib.Numerals.{add-one}
 use native.Mathlib.Nat.{add-zero, zero-add, suc-add, add-suc, le-of-eq}
+use native.Mathlib.Decide.{ℕ-discrete, decLt}
 use native.Mathlib.Omega.{arith}
 use lib.ListN.{length, getD, drop, take, drop-of-length-le, length-drop}
 use lib.Seq.{drop-cons, take-all}
@@ -16,34 +17,27 @@ use Rattle.query.specs.declared.Scanned.{Scanned}
 use Rattle.query.specs.declared.Scanned.the-variants.{Entries, Invalid}
 
 module _ (vertices longest prev : ℕ) (s : List ℕ) (i : ℕ) where
-  -- b is what `all_zero(&s[i..])` returns
-  pub scan-zero : i < length s → getD s i 0 ≡ 0 → (b : Bool) → zeros? (take (length s - i) (drop i s)) ≡ b
-      → scanFrom vertices longest prev i (drop i s) ≡ cond b (Entries i) Invalid
-  scan-zero h e b q = here ∙ ap (λ (t : Bool). cond t (Entries i) Invalid) (ap zeros? (sym all) ∙ q)
-    where
-      here : scanFrom vertices longest prev i (drop i s) ≡ cond (zeros? (drop i s)) (Entries i) Invalid
-      here = unfold scanFrom risingEntries? standing zeros? in rw (drop-cons s i 0, eq-eqb (getD s i 0) 0 e, add-zero)
+  -- nothing rises from slot i on, which may be the end
+  pub scan-rest : getD s i 0 ≤ prev → scanFrom vertices longest prev i (drop i s) ≡ cond (zeros? (drop i s)) (Entries i) Invalid
+  unfolding scanFrom risingEntries? standing zeros?
+  scan-rest l = elim (decLt i (length s)) [
+    | yes h ↦ elim (ℕ-discrete (getD s i 0) 0) [
+      | yes e ↦ rw (drop-cons s i 0, eq-eqb (getD s i 0) 0 e, add-zero)
+      | no n ↦ rw (drop-cons s i 0, ne-eqb (getD s i 0) 0 n, le-ltb prev (getD s i 0) l)
+    ]
+    | no h ↦ let k : length s ≤ i = omega arith in rw (drop-of-length-le s k, add-zero)
+  ]
 
-      all : take (length s - i) (drop i s) ≡ drop i s
-      all = take-all (length s - i) (drop i s) (le-of-eq (length-drop i s))
-
-  module _ (h : i < length s) (n : getD s i 0 ≡ 0 → ⊥) where
-    pub scan-low : getD s i 0 ≤ prev → scanFrom vertices longest prev i (drop i s) ≡ Invalid
-    unfolding scanFrom risingEntries?
-    scan-low l = rw (drop-cons s i 0, ne-eqb (getD s i 0) 0 n, le-ltb prev (getD s i 0) l)
-
-    pub scan-other : prev < getD s i 0 → entry? vertices longest (getD s i 0) ≡ false → scanFrom vertices longest prev i (drop i s) ≡ Invalid
-    unfolding scanFrom risingEntries?
-    scan-other l q = rw (drop-cons s i 0, ne-eqb (getD s i 0) 0 n, lt-ltb prev (getD s i 0) l, q)
-
-    pub scan-more : prev < getD s i 0 → entry? vertices longest (getD s i 0) ≡ true
-        → scanFrom vertices longest (getD s i 0) (i + 1) (drop (i + 1) s) ≡ scanFrom vertices longest prev i (drop i s)
-    unfolding scanFrom risingEntries? standing
-    scan-more l q = rw (add-one, drop-cons s i 0, ne-eqb (getD s i 0) 0 n, lt-ltb prev (getD s i 0) l, q, suc-add, add-suc)
-
-  pub scan-end : length s ≤ i → scanFrom vertices longest prev i (drop i s) ≡ Entries i
+  -- one more rises
+  pub scan-next : i < length s → prev < getD s i 0 → (b : Bool) → entry? vertices longest (getD s i 0) ≡ b
+      → scanFrom vertices longest prev i (drop i s) ≡ cond b (scanFrom vertices longest (getD s i 0) (i + 1) (drop (i + 1) s)) Invalid
   unfolding scanFrom risingEntries? standing
-  scan-end h = rw (drop-of-length-le s h, add-zero)
+  scan-next h l true q = rw (add-one, drop-cons s i 0, ne-eqb (getD s i 0) 0 (λ e. omega arith), lt-ltb prev (getD s i 0) l, q, suc-add, add-suc)
+  scan-next h l false q = rw (drop-cons s i 0, ne-eqb (getD s i 0) 0 (λ e. omega arith), lt-ltb prev (getD s i 0) l, q)
+
+-- b is what `all_zero(&s[i..])` returns
+pub rest-is : (s : List ℕ) (i : ℕ) (b : Bool) → zeros? (take (length s - i) (drop i s)) ≡ b → cond (zeros? (drop i s)) (Entries i) Invalid ≡ cond b (Entries i) Invalid
+rest-is s i b q = ap (λ (t : Bool). cond t (Entries i) Invalid) (ap zeros? (sym (take-all (length s - i) (drop i s) (le-of-eq (length-drop i s)))) ∙ q)
 
 module _ (vertices longest : ℕ) (s : List ℕ) where
   pub scan-start : scanFrom vertices longest 0 0 s ≡ scanOf vertices longest s

@@ -1,26 +1,57 @@
--- Entries that are passed because they rise, are below an end and have a code that was seen.
+-- The fast loop of check 12: the slots from i on, with the last entry before them, say what those from `from` on say.
 use mathlib.Core.Path.{_≡_, refl, _∙_}
+use mathlib.Core.Bool.{true, false}
 use mathlib.Core.List.{List}
 use Prim.Native.Nat.{ℕ, _+_, _/_, _%_, _^_, _≤_, _<_}
 use native.Mathlib.Omega.{arith}
-use lib.ListN.{length, getD}
-use Rattle.query.specs.Scan.{Skims}
-use Rattle.query.proofs.Limits.{placed-entry}
-use Rattle.query.proofs.Scanning.{scan-more}
+use lib.ListN.{length, getD, drop, List·getD-eq-default}
+use Rattle.model.specs.Query.{entry?}
+use Rattle.query.specs.Memory.{scanFrom}
+use Rattle.query.specs.Scan.{Seen, Within, Hubs, Skims}
+use Rattle.query.specs.Parts.{lowOf}
+use Rattle.query.specs.declared.Stop.the-variants.{Rest, Fresh, Stray}
+use Rattle.query.proofs.Fields.{code-entry}
+use Rattle.query.proofs.Scanning.{scan-rest, scan-next}
 
-module _ {index : List ℕ} {from prev end : ℕ} {seen : List ℕ} where
-  pub skim-start : from ≤ length index → Skims index from prev end seen (record { at = from; last = prev })
-  skim-start h = record { low = omega arith; high = h; rises = omega arith; same = λ _ _ _ _. refl }
+pub record Skimmed (index : List ℕ) (from prev end hubs : ℕ) (seen : List ℕ) (i last : ℕ) : Type 0 where
+  pub low : from ≤ i
+  pub high : i ≤ length index
+  pub rises : prev ≤ last
+  pub same :
+      (vertices longest : ℕ) → Seen longest seen → Within vertices prev end → Hubs vertices hubs
+      → scanFrom vertices longest prev from (drop from index) ≡ scanFrom vertices longest last i (drop i index)
 
-  pub skim-more : {i last : ℕ} → Skims index from prev end seen (record { at = i; last = last }) → i < length index → last < getD index i 0 → getD index i 0 < end
-      → getD seen (getD index i 0 % 65536 / 64) 0 / 2 ^ (getD index i 0 % 65536 % 64) % 2 ≡ 1
-      → Skims index from prev end seen (record { at = i + 1; last = getD index i 0 })
-  skim-more {i} {last} m h l e b =
-      record {
+module _ {index : List ℕ} {from prev end hubs : ℕ} {seen : List ℕ} where
+  pub skim-start : from ≤ length index → Skimmed index from prev end hubs seen from prev
+  skim-start h = record { low = omega arith; high = h; rises = omega arith; same = λ _ _ _ _ _. refl }
+
+  module _ {i last : ℕ} (m : Skimmed index from prev end hubs seen i last) where
+    pub skim-rest : getD index i 0 ≤ last → Skims index from prev end hubs seen (Rest i)
+    skim-rest l = record { slot = m .high; same = λ v k s w h. m .same v k s w h ∙ scan-rest v k last index i l }
+
+    pub skim-end : length index ≤ i → Skims index from prev end hubs seen (Rest i)
+    skim-end h = skim-rest (omega (arith, List·getD-eq-default index 0 h))
+
+    module _ (h : i < length index) (l : last < getD index i 0) where
+      pub skim-fresh : Skims index from prev end hubs seen (Fresh i)
+      skim-fresh = record { slot = (m .low, h); same = λ v k s w u. m .same v k s w u ∙ scan-next v k last index i h l (entry? v k (getD index i 0)) refl }
+
+      pub skim-stray : hubs ≤ lowOf (getD index i 0) → Skims index from prev end hubs seen Stray
+      skim-stray o = record {
+        slot = omega (arith, m .low);
+        same = λ v k s w u. m .same v k s w u ∙ scan-next v k last index i h l false (u .wrong (getD index i 0) o k);
+      }
+
+      pub skim-more : getD index i 0 < end → lowOf (getD index i 0) < hubs
+          → getD seen (getD index i 0 % 65536 / 64) 0 / 2 ^ (getD index i 0 % 65536 % 64) % 2 ≡ 1
+          → Skimmed index from prev end hubs seen (i + 1) (getD index i 0)
+      skim-more e o b = record {
         low = omega (arith, m .low);
         high = omega arith;
         rises = omega (arith, m .rises);
         same =
-            λ vertices longest s w.
-            scan-more vertices longest last index i h (λ z. omega arith) l (placed-entry (w .at (getD index i 0) (omega (arith, m .rises)) e) longest (s .right _ b)) ∙ m .same vertices longest s w;
+            λ v k s w u.
+            let x = getD index i 0 in
+            let a : prev ≤ x = omega (arith, m .rises) in
+            m .same v k s w u ∙ scan-next v k last index i h l true (code-entry v k x (w .side x a e) (w .owner x a e) (u .right x o) (s .right _ b));
       }

@@ -1,20 +1,25 @@
 -- What check 12 keeps as it goes over index memory.
 use mathlib.Core.Path.{_≡_}
-use mathlib.Core.Bool.{Bool, true, false}
+use mathlib.Core.Bool.{Bool, true, false, cond}
 use mathlib.Core.List.{List}
-use Prim.Native.Nat.{ℕ, _/_, _%_, _^_, _≤_, _<_}
+use Prim.Native.Nat.{ℕ, _+_, _/_, _%_, _^_, _≤_, _<_}
 use lib.ListN.{length, getD, drop}
-use Rattle.query.specs.Memory.{scanFrom}
-use Rattle.query.specs.declared.Place.{Place}
+use Rattle.model.specs.Edges.{zeros?}
 use Rattle.model.specs.Query.{sideOf, ownerOf, hubOf, code?, entry?}
+use Rattle.query.specs.Memory.{scanFrom}
+use Rattle.query.specs.Parts.{lowOf}
+use Rattle.query.specs.declared.Scanned.{Scanned}
+use Rattle.query.specs.declared.Scanned.the-variants.{Entries, Invalid}
+use Rattle.query.specs.declared.Stop.{Stop}
+use Rattle.query.specs.declared.Stop.the-variants.{Rest, Fresh, Stray}
 
 -- each bit that is set stands for a code
 pub record Seen (longest : ℕ) (seen : List ℕ) : Type 0 where
   pub long : length seen ≡ 1024
   pub right : (c : ℕ) → getD seen (c / 64) 0 / 2 ^ (c % 64) % 2 ≡ 1 → code? longest c ≡ true
 
-pub record Looks (longest code : ℕ) (seen′ : List ℕ) (r : Bool) : Type 0 where
-  pub is : r ≡ code? longest code
+pub record Looks (vertices longest x : ℕ) (seen′ : List ℕ) (r : Bool) : Type 0 where
+  pub is : r ≡ entry? vertices longest x
   pub seen : Seen longest seen′
 
 -- the vertices among the 256 numbers of a field are those below r
@@ -23,26 +28,31 @@ pub record FieldEnd (vertices r : ℕ) : Type 0 where
   pub most : r ≤ vertices
   pub least : (v : ℕ) → v < 256 → v < vertices → v < r
 
--- side, owner and hub are right
-pub record Placed (vertices x : ℕ) : Type 0 where
-  pub side : sideOf x < 2
-  pub owner : ownerOf x < vertices
-  pub hub : hubOf x < vertices
-
--- so they are from x on, below end
+-- side and owner are right from x on, below end
 pub record Within (vertices x end : ℕ) : Type 0 where
-  pub at : (y : ℕ) → x ≤ y → y < end → Placed vertices y
+  pub side : (y : ℕ) → x ≤ y → y < end → sideOf y < 2
+  pub owner : (y : ℕ) → x ≤ y → y < end → ownerOf y < vertices
 
--- and x itself is below, unless it is no entry
-pub record Limits (vertices x end : ℕ) : Type 0 where
-  pub within : Within vertices x end
-  pub outside : end ≤ x → (longest : ℕ) → entry? vertices longest x ≡ false
+-- the hub is right where hub and code are below hubs
+pub record Hubs (vertices hubs : ℕ) : Type 0 where
+  pub right : (x : ℕ) → lowOf x < hubs → hubOf x < vertices
+  pub wrong : (x : ℕ) → hubs ≤ lowOf x → (longest : ℕ) → entry? vertices longest x ≡ false
 
--- the slots from the place on, with the last entry before it, say what those from `from` on say, whatever graph the codes and `end` are of
-pub record Skims (index : List ℕ) (from prev end : ℕ) (seen : List ℕ) (r : Place) : Type 0 where
-  pub low : from ≤ r .at
-  pub high : r .at ≤ length index
-  pub rises : prev ≤ r .last
+-- what check 12 finds where it stops so
+abbrev pub stopped : ℕ → ℕ → List ℕ → Stop → Scanned
+stopped vertices longest index (Rest at) = cond (zeros? (drop at index)) (Entries at) Invalid
+stopped vertices longest index (Fresh at) =
+    cond (entry? vertices longest (getD index at 0)) (scanFrom vertices longest (getD index at 0) (at + 1) (drop (at + 1) index)) Invalid
+stopped vertices longest index Stray = Invalid
+
+abbrev pub Slot : List ℕ → ℕ → Stop → Type 0
+Slot index from (Rest at) = at ≤ length index
+Slot index from (Fresh at) = (from ≤ at) × (at < length index)
+Slot index from Stray = from ≤ length index
+
+-- the stop says what the slots from `from` on say, whatever graph the codes, `end` and `hubs` are of
+pub record Skims (index : List ℕ) (from prev end hubs : ℕ) (seen : List ℕ) (r : Stop) : Type 0 where
+  pub slot : Slot index from r
   pub same :
-      (vertices longest : ℕ) → Seen longest seen → Within vertices prev end
-      → scanFrom vertices longest (r .last) (r .at) (drop (r .at) index) ≡ scanFrom vertices longest prev from (drop from index)
+      (vertices longest : ℕ) → Seen longest seen → Within vertices prev end → Hubs vertices hubs
+      → scanFrom vertices longest prev from (drop from index) ≡ stopped vertices longest index r

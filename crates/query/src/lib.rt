@@ -15,7 +15,7 @@ ghost use Rattle.model.specs.Replies.{answeredOf};
 ghost use Rattle.calls.specs.Query.{queryCall};
 ghost use Rattle.query.specs.Memory.{scanOf, Says};
 ghost use Rattle.query.specs.Codes.{repeats?};
-ghost use Rattle.query.specs.Scan.{Seen, Looks, FieldEnd, Within, Limits, Skims};
+ghost use Rattle.query.specs.Scan.{Seen, Looks, FieldEnd, Skims};
 ghost use Rattle.query.specs.Parts.{Listed, Joins};
 ghost use Rattle.query.specs.Call.{Checks};
 
@@ -84,18 +84,24 @@ pub fn is_code(longest: u32, code: u64) -> bool
     false
 }
 
-// Whether a code is as is_code says. A bit of `seen` is set for each code that was found to be one, and spares the test.
-fn is_seen_code(longest: u32, code: u64, seen: &mut [u64]) -> bool
-    requires { ⌜ (code < 2 ^ 16) × Seen longest (now seen) ⌝ }
-    ensures { λ r. ⌜ Looks longest code (now (seen .exit)) r ⌝ }
+// Whether x is an entry of the graph. If it is, the bit of `seen` for its code is set, which spares the next with that code the test.
+fn is_entry(vertices: u32, longest: u32, x: u64, seen: &mut [u64]) -> bool
+    requires { ⌜ Seen longest (now seen) ⌝ }
+    ensures { λ r. ⌜ Looks vertices longest x (now (seen .exit)) r ⌝ }
 {
-    let at = (code / 64) as usize;
-    let s = code % 64;
-    if (seen[at] >> s) % 2 == 1 {
-        return true;
+    if 2 <= x / SIDE {
+        return false;
     }
+    if vertices as u64 <= x / OWNER % 256 {
+        return false;
+    }
+    if vertices as u64 <= x / HUB % 256 {
+        return false;
+    }
+    let code = x % HUB;
     if is_code(longest, code) {
-        seen[at] = seen[at] | (1 << s);
+        let at = (code / 64) as usize;
+        seen[at] = seen[at] | (1 << (code % 64));
         return true;
     }
     false
@@ -111,35 +117,6 @@ fn field_end(vertices: u32) -> u64
     256
 }
 
-// The end of the numbers from x on with the side and owner of x and a hub of the graph, or 0 where x has no such fields.
-fn limit(vertices: u32, x: u64) -> u64
-    ensures { λ r. ⌜ Limits vertices x r ⌝ }
-{
-    let n = field_end(vertices);
-    let owner = x / OWNER;
-    if 512 <= owner {
-        return 0;
-    }
-    if n <= owner % 256 {
-        return 0;
-    }
-    if n <= x / HUB % 256 {
-        return 0;
-    }
-    owner * OWNER + n * HUB
-}
-
-// The same, where it is known already for numbers below `end`.
-fn reach(vertices: u32, x: u64, end: u64) -> u64
-    requires { ⌜ Within vertices x end ⌝ }
-    ensures { λ r. ⌜ Limits vertices x r ⌝ }
-{
-    if x < end {
-        return end;
-    }
-    limit(vertices, x)
-}
-
 fn all_zero(s: &[u64]) -> bool
     ensures { λ r. ⌜ r ≡ zeros? (now (s .entry)) ⌝ }
 {
@@ -153,76 +130,75 @@ fn all_zero(s: &[u64]) -> bool
     true
 }
 
-// How far check 12 has come: a slot, and the last entry before it.
-struct Place {
-    at: usize,
-    last: u64,
+// Why check 12 leaves its fast loop. As each way out leads elsewhere, the compiler keeps the tests apart, which is faster than one of all.
+enum Stop {
+    // from this slot on nothing rises
+    Rest(usize),
+    // side, owner or code of the entry in this slot is not known to be right
+    Fresh(usize),
+    // a hub is none of the graph
+    Stray,
 }
 
-// Goes on over the entries that rise, are below `end` and have a code that was seen. A loop of its own, as nearly all entries are such.
-fn skim(index: &[u64], from: usize, prev: u64, end: u64, seen: &[u64]) -> Place
+// Goes on over the entries that rise, are below `end`, are below `hubs` by hub and code, and have a code that was seen, as nearly all do.
+fn skim(index: &[u64], from: usize, prev: u64, end: u64, hubs: u64, seen: &[u64]) -> Stop
     requires { ⌜ (from ≤ length (now index)) × (length (now seen) ≡ 1024) ⌝ }
-    ensures { λ r. ⌜ Skims (now (index .entry)) from prev end (now (seen .entry)) r ⌝ }
+    ensures { λ r. ⌜ Skims (now (index .entry)) from prev end hubs (now (seen .entry)) r ⌝ }
 {
     let mut i = from;
     let mut last = prev;
     while i < index.len() {
         let x = index[i];
         if x <= last {
-            return Place { at: i, last };
+            return Stop::Rest(i);
         }
         if end <= x {
-            return Place { at: i, last };
+            return Stop::Fresh(i);
+        }
+        if hubs <= x % OWNER {
+            return Stop::Stray;
         }
         let code = x % HUB;
         if (seen[(code / 64) as usize] >> (code % 64)) % 2 == 1 {
             last = x;
             i += 1;
         } else {
-            return Place { at: i, last };
+            return Stop::Fresh(i);
         }
     }
-    Place { at: i, last }
+    Stop::Rest(i)
 }
 
-// Check 12, in one pass. From the last entry to `end`, side, owner and hub are right.
+// Check 12, in one pass. From the last entry to `end`, side and owner are right.
 pub fn scan(vertices: u32, longest: u32, index: &[u64]) -> Scanned
     ensures { λ r. ⌜ r ≡ scanOf vertices longest (now (index .entry)) ⌝ }
 {
     let mut seen = [0u64; 1024];
+    let n = field_end(vertices);
     let mut i = 0;
     let mut prev: u64 = 0;
     let mut end: u64 = 0;
-    while i < index.len() {
-        let place = skim(index, i, prev, end, &seen);
-        let at = place.at;
-        let passed = place.last;
-        if index.len() <= at {
-            return Scanned::Entries(at);
-        }
-        let x = index[at];
-        if x == 0 {
-            if all_zero(&index[at..]) {
-                return Scanned::Entries(at);
-            } else {
+    loop {
+        let stop = skim(index, i, prev, end, n * HUB, &seen);
+        match stop {
+            Stop::Stray => return Scanned::Invalid,
+            Stop::Rest(at) => {
+                if all_zero(&index[at..]) {
+                    return Scanned::Entries(at);
+                }
                 return Scanned::Invalid;
             }
-        }
-        if x <= passed {
-            return Scanned::Invalid;
-        }
-        end = reach(vertices, x, end);
-        if end <= x {
-            return Scanned::Invalid;
-        }
-        if is_seen_code(longest, x % HUB, &mut seen) {
-            prev = x;
-            i = at + 1;
-        } else {
-            return Scanned::Invalid;
+            Stop::Fresh(at) => {
+                prev = index[at];
+                if is_entry(vertices, longest, prev, &mut seen) {
+                    end = prev / SIDE * SIDE + n * OWNER;
+                    i = at + 1;
+                } else {
+                    return Scanned::Invalid;
+                }
+            }
         }
     }
-    Scanned::Entries(i)
 }
 
 // The first slot whose entry is at least key, by halving.

@@ -1,134 +1,163 @@
 -- `query::scan` meets its contract. The invariant: from slot i on, with the last entry passed, the memory says what all of it says; the codes
--- seen are codes, and up to `end` the other fields are right.
-use mathlib.Core.Path.{_≡_, sym, _∙_}
-use mathlib.Core.Bool.{true, false}
-use Prim.Native.Nat.{_≤_, _<_, _-_}
+-- seen are codes, and up to `end` side and owner are right.
+use mathlib.Core.Path.{_≡_, sym, ap, _∙_}
+use mathlib.Core.Bool.{Bool, true, false, cond}
+use mathlib.Core.List.{List}
+use Prim.Native.Nat.{ℕ, _+_, _-_, _≤_, _<_}
 use native.Mathlib.Omega.{arith}
 use borrow.Author.Needs.{needs}
-use lib.ListN.{length, drop}
+use lib.ListN.{length, getD, take, drop}
+use Rattle.model.specs.Edges.{zeros?}
+use Rattle.model.specs.Query.{sideOf, entry?}
 use Rattle.query.specs.Memory.{scanOf, scanFrom}
-use Rattle.query.specs.Scan.{Seen, Within}
-use Rattle.query.proofs.Scanning.{scan-start, scan-zero, scan-low, scan-other, scan-more, scan-end}
-use Rattle.query.proofs.Limits.{seen-none, within-later, placed-entry}
+use Rattle.query.specs.Scan.{Seen, Within, stopped}
+use Rattle.query.specs.declared.Scanned.{Scanned}
+use Rattle.query.specs.declared.Scanned.the-variants.{Entries, Invalid}
+use Rattle.query.specs.declared.Stop.{Stop}
+use Rattle.query.proofs.Scanning.{scan-start, rest-is}
+use Rattle.query.proofs.Fields.{seen-none, hubs, within, entry-side}
 use Rattle.query.proofs.scan.Statement.{statement}
 use Rattle.query.proofs.scan.Tie as tie
 
 abbrev Inv-loop : tie.InvT-loop
-Inv-loop vertices longest index seen₀ i₀ prev₀ end₀ seen i prev end =
+Inv-loop vertices longest index seen₀ n i₀ prev₀ end₀ seen i prev end =
     (i ≤ length index)
     × ((scanFrom vertices longest prev i (drop i index) ≡ scanOf vertices longest index) × (Seen longest seen × Within vertices prev end))
 
 abbrev μ-loop : tie.MeasureT-loop
-μ-loop vertices longest index seen₀ i₀ prev₀ end₀ seen i prev end = length index - i
+μ-loop vertices longest index seen₀ n i₀ prev₀ end₀ seen i prev end = length index - i
 
--- the slots from where skim stopped say what all say
-skimmed : (c : tie.After-skim Inv-loop μ-loop)
-    → scanFrom (c .before .before .before .before .before .args .vertices) (c .before .before .before .before .before .args .longest) (c .skim .result .last) (c .skim .result .at) (drop (c .skim .result .at) (c .before .before .before .before .before .args .index .now))
-    ≡ scanOf (c .before .before .before .before .before .args .vertices) (c .before .before .before .before .before .args .longest) (c .before .before .before .before .before .args .index .now)
-skimmed c =
-    let inv = c .before .before .before .loop .inv in
-    c .skim .ensures .same _ _ (inv .1 .1 .0) (inv .1 .1 .1) ∙ inv .1 .0
+abbrev start : tie.After-skim Inv-loop μ-loop → tie.Start Inv-loop μ-loop
+start c = c .before .before .before .before .before
+
+abbrev slots : tie.After-skim Inv-loop μ-loop → List ℕ
+slots c = start c .args .index .now
+
+abbrev whole : tie.After-skim Inv-loop μ-loop → Scanned
+whole c = scanOf (start c .args .vertices) (start c .args .longest) (slots c)
+
+-- where skim stopped says what all slots say
+skimmed : (c : tie.After-skim Inv-loop μ-loop) {r : Stop} → c .skim .result ≡ r
+    → whole c ≡ stopped (start c .args .vertices) (start c .args .longest) (slots c) r
+skimmed c e =
+    let inv = c .before .before .loop .inv in
+    sym (inv .1 .0)
+    ∙ c .skim .ensures .same _ _ (inv .1 .1 .0) (inv .1 .1 .1) (hubs (c .before .before .before .field-end .ensures))
+    ∙ ap (stopped (start c .args .vertices) (start c .args .longest) (slots c)) e
+
+-- at the rest
+rest-slot : (c : tie.After-stop Inv-loop μ-loop) → c .stop .given .0 .0 ≤ length (slots (c .before .before))
+rest-slot c = rw (c .stop .given .1) at (c .before .before .skim .ensures .slot)
+
+rest : (c : tie.After-stop Inv-loop μ-loop) (b : Bool)
+    → zeros? (take (length (slots (c .before .before)) - c .stop .given .0 .0) (drop (c .stop .given .0 .0) (slots (c .before .before)))) ≡ b
+    → cond b (Entries (c .stop .given .0 .0)) Invalid ≡ whole (c .before .before)
+rest c b e = sym (skimmed (c .before .before) (c .stop .given .1) ∙ rest-is (slots (c .before .before)) (c .stop .given .0 .0) b e)
+
+-- at an entry that is to be looked at
+fresh-slot : (c : tie.After-stop2 Inv-loop μ-loop)
+    → (c .before .before .before .before .loop .i ≤ c .stop2 .given .0 .0) × (c .stop2 .given .0 .0 < length (slots (c .before .before)))
+fresh-slot c = rw (c .stop2 .given .1) at (c .before .before .skim .ensures .slot)
+
+fresh : (c : tie.After-stop2 Inv-loop μ-loop) (b : Bool)
+    → entry? (start (c .before .before) .args .vertices) (start (c .before .before) .args .longest) (getD (slots (c .before .before)) (c .stop2 .given .0 .0) 0) ≡ b
+    → cond b (scanFrom (start (c .before .before) .args .vertices) (start (c .before .before) .args .longest) (getD (slots (c .before .before)) (c .stop2 .given .0 .0) 0) (c .stop2 .given .0 .0 + 1) (drop (c .stop2 .given .0 .0 + 1) (slots (c .before .before)))) Invalid
+    ≡ whole (c .before .before)
+fresh c b e = sym (rw e at (skimmed (c .before .before) (c .stop2 .given .1)))
+
+field-end-requires : tie.Need-field-end-requires Inv-loop μ-loop
+field-end-requires c κs = search needs
 
 loop-holds : tie.Need-loop-holds Inv-loop μ-loop
-loop-holds c = (omega arith, (scan-start _ _ _, (seen-none _, record { at = λ y l h. absurd (omega arith) })))
+loop-holds c = (omega arith, (scan-start _ _ _, (seen-none _, record { side = λ y l h. absurd (omega arith); owner = λ y l h. absurd (omega arith) })))
+
+mul-skim : tie.Need-mul-skim Inv-loop μ-loop
+mul-skim c = search needs
 
 slice-aggregate-skim : tie.Need-slice-aggregate-skim Inv-loop μ-loop
 slice-aggregate-skim c = search needs
 
 skim-requires : tie.Need-skim-requires Inv-loop μ-loop
-skim-requires c κs = (c .before .before .loop .inv .0, c .before .before .loop .inv .1 .1 .0 .long)
+skim-requires c κs = (c .before .loop .inv .0, c .before .loop .inv .1 .1 .0 .long)
+
+enum-told : tie.Need-enum-told Inv-loop μ-loop
+enum-told c = search needs
 
 returns : tie.Need-returns Inv-loop μ-loop
-returns c = sym (scan-end _ _ _ _ _ (c .if1 .taken)) ∙ skimmed (c .before)
+returns c = sym (skimmed (c .before .before) (c .enum-told .given .1))
 
-mul-x : tie.Need-mul-x Inv-loop μ-loop
-mul-x c = search needs
-
-shared-slice-read-x : tie.Need-shared-slice-read-x Inv-loop μ-loop
-shared-slice-read-x c = search needs
+enum-known-stop : tie.Need-enum-known-stop Inv-loop μ-loop
+enum-known-stop c = search needs
 
 mul-all-zero : tie.Need-mul-all-zero Inv-loop μ-loop
-mul-all-zero c = search needs
+mul-all-zero c = let h = rest-slot (c .before) in search needs
 
 sub-all-zero : tie.Need-sub-all-zero Inv-loop μ-loop
-sub-all-zero c = search needs
+sub-all-zero c = let h = rest-slot (c .before) in search needs
 
 part-all-zero-start : tie.Need-part-all-zero-start Inv-loop μ-loop
-part-all-zero-start c = search needs
+part-all-zero-start c = let h = rest-slot (c .before) in search needs
 
 part-all-zero-end : tie.Need-part-all-zero-end Inv-loop μ-loop
-part-all-zero-end c = search needs
+part-all-zero-end c = let h = rest-slot (c .before) in search needs
 
 all-zero-requires : tie.Need-all-zero-requires Inv-loop μ-loop
 all-zero-requires c κs = search needs
 
 returns-2 : tie.Need-returns-2 Inv-loop μ-loop
-returns-2 c =
-    let n = c .before .before .before in
-    let t = n .before .before in
-    let z = sym (c .before .all-zero .ensures) ∙ c .if3 .taken in
-    sym (scan-zero _ _ _ _ _ (t .if1 .left) (n .if2 .taken) true z) ∙ skimmed (t .before)
+returns-2 c = rest (c .before .before .before .before) true (sym (c .before .all-zero .ensures) ∙ c .if1 .taken)
 
 returns-3 : tie.Need-returns-3 Inv-loop μ-loop
-returns-3 c =
-    let n = c .before .before .before in
-    let t = n .before .before in
-    let z = sym (c .before .all-zero .ensures) ∙ c .if3 .left in
-    sym (scan-zero _ _ _ _ _ (t .if1 .left) (n .if2 .taken) false z) ∙ skimmed (t .before)
+returns-3 c = rest (c .before .before .before .before) false (sym (c .before .all-zero .ensures) ∙ c .if1 .left)
 
-returns-4 : tie.Need-returns-4 Inv-loop μ-loop
-returns-4 c =
-    let t = c .before .before .before in
-    sym (sym (skimmed (t .before)) ∙ scan-low _ _ _ _ _ (t .if1 .left) (c .before .if2 .left) (omega (arith, c .if4 .taken)))
+enum-known-stop-2 : tie.Need-enum-known-stop-2 Inv-loop μ-loop
+enum-known-stop-2 c = search needs
 
-reach-requires : tie.Need-reach-requires Inv-loop μ-loop
-reach-requires c κs =
-    let skim = c .before .before .before .before in
-    within-later (skim .before .before .before .loop .inv .1 .1 .1) (omega (arith, skim .skim .ensures .rises, c .if4 .left))
+mul-prev : tie.Need-mul-prev Inv-loop μ-loop
+mul-prev c = let h = fresh-slot (c .before) in search needs
 
-returns-5 : tie.Need-returns-5 Inv-loop μ-loop
-returns-5 c =
-    let n = c .before .before in
-    let t = n .before .before .before in
-    let e = c .before .reach .ensures .outside (c .if5 .taken) _ in
-    sym (scan-other _ _ _ _ _ (t .if1 .left) (n .before .if2 .left) (n .if4 .left) e) ∙ skimmed (t .before)
+shared-slice-read-prev : tie.Need-shared-slice-read-prev Inv-loop μ-loop
+shared-slice-read-prev c = let h = fresh-slot (c .before .before) in search needs
 
-slice-aggregate-is-seen-code : tie.Need-slice-aggregate-is-seen-code Inv-loop μ-loop
-slice-aggregate-is-seen-code c = search needs
+slice-aggregate-is-entry : tie.Need-slice-aggregate-is-entry Inv-loop μ-loop
+slice-aggregate-is-entry c = search needs
 
-is-seen-code-requires : tie.Need-is-seen-code-requires Inv-loop μ-loop
-is-seen-code-requires c κs = (omega arith, c .before .before .before .before .before .before .before .before .before .before .loop .inv .1 .1 .0)
+is-entry-requires : tie.Need-is-entry-requires Inv-loop μ-loop
+is-entry-requires c κs = c .before .before .before .before .before .before .before .loop .inv .1 .1 .0
+
+abbrev stop : tie.Then2 Inv-loop μ-loop → tie.After-stop2 Inv-loop μ-loop
+stop c = c .before .before .before .before .before .before
+
+entry : (c : tie.Then2 Inv-loop μ-loop)
+    → entry? (start (stop c .before .before) .args .vertices) (start (stop c .before .before) .args .longest) (getD (slots (stop c .before .before)) (stop c .stop2 .given .0 .0) 0) ≡ true
+entry c = sym (c .before .before .is-entry .ensures .is) ∙ c .if2 .taken
+
+side : (c : tie.Then2 Inv-loop μ-loop) → sideOf (getD (slots (stop c .before .before)) (stop c .stop2 .given .0 .0) 0) < 2
+side c = entry-side (start (stop c .before .before) .args .vertices) _ _ (entry c)
+
+mul-end : tie.Need-mul-end Inv-loop μ-loop
+mul-end c = let h = side c in search needs
+
+mul-end-2 : tie.Need-mul-end-2 Inv-loop μ-loop
+mul-end-2 c = search needs
+
+add-end : tie.Need-add-end Inv-loop μ-loop
+add-end c = let h = side c in search needs
 
 add-i : tie.Need-add-i Inv-loop μ-loop
-add-i c = search needs
+add-i c = let h = fresh-slot (stop c) in search needs
 
 loop-less : tie.Need-loop-less Inv-loop μ-loop
-loop-less c =
-    let t = c .before .before .before .before .before .before .before .before .before in
-    omega (arith, t .before .skim .ensures .low, t .if1 .left)
+loop-less c = let h = fresh-slot (stop c) in omega arith
 
 loop-again : tie.Need-loop-again Inv-loop μ-loop
 loop-again c =
-    let r = c .before .before .before .before .before in
-    let n = r .before in
-    let t = n .before .before .before in
-    let seen = c .before .before .is-seen-code .ensures in
-    let within = r .reach .ensures .within in
-    let e = placed-entry (within .at _ (omega arith) (c .before .before .before .before .if5 .left)) _ (sym (seen .is) ∙ c .if6 .taken) in
-    (omega (arith, t .if1 .left), (scan-more _ _ _ _ _ (t .if1 .left) (n .before .if2 .left) (n .if4 .left) e ∙ skimmed (t .before), (seen .seen, within)))
+    let seen = c .before .before .is-entry .ensures in
+    let first = c .before .before .before .before .before .before .before .before .before .before .before in
+    (omega (arith, fresh-slot (stop c)), (fresh (stop c) true (entry c), (seen .seen, within (first .field-end .ensures) _ (side c))))
 
-returns-6 : tie.Need-returns-6 Inv-loop μ-loop
-returns-6 c =
-    let r = c .before .before .before .before .before in
-    let n = r .before in
-    let t = n .before .before .before in
-    let seen = c .before .before .is-seen-code .ensures in
-    let within = r .reach .ensures .within in
-    let e = placed-entry (within .at _ (omega arith) (c .before .before .before .before .if5 .left)) _ (sym (seen .is) ∙ c .if6 .left) in
-    sym (scan-other _ _ _ _ _ (t .if1 .left) (n .before .if2 .left) (n .if4 .left) e) ∙ skimmed (t .before)
-
-returns-7 : tie.Need-returns-7 Inv-loop μ-loop
-returns-7 c = sym (scan-end _ _ _ _ _ (c .loop-test .left)) ∙ c .before .loop .inv .1 .0
+returns-4 : tie.Need-returns-4 Inv-loop μ-loop
+returns-4 c = fresh (c .before .before .before .before .before .before) false (sym (c .before .before .is-entry .ensures .is) ∙ c .if2 .left)
 
 pub scan-spec : {M : Type 1} → statement M
 scan-spec =
@@ -136,12 +165,14 @@ scan-spec =
     (tie.spec
     Inv-loop
     μ-loop
+    field-end-requires
     loop-holds
+    mul-skim
     slice-aggregate-skim
     skim-requires
+    enum-told
     returns
-    mul-x
-    shared-slice-read-x
+    enum-known-stop
     mul-all-zero
     sub-all-zero
     part-all-zero-start
@@ -149,13 +180,15 @@ scan-spec =
     all-zero-requires
     returns-2
     returns-3
-    returns-4
-    reach-requires
-    returns-5
-    slice-aggregate-is-seen-code
-    is-seen-code-requires
+    enum-known-stop-2
+    mul-prev
+    shared-slice-read-prev
+    slice-aggregate-is-entry
+    is-entry-requires
+    mul-end
+    mul-end-2
+    add-end
     add-i
     loop-less
     loop-again
-    returns-6
-    returns-7)
+    returns-4)
