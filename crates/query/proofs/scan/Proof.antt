@@ -9,12 +9,13 @@ use borrow.Author.Needs.{needs}
 use lib.ListN.{length, getD, take, drop}
 use Rattle.model.specs.Edges.{zeros?}
 use Rattle.model.specs.Query.{sideOf, entry?}
+use Rattle.model.proofs.Checked.{checked-zeros}
 use Rattle.query.specs.Memory.{scanOf, scanFrom}
 use Rattle.query.specs.Scan.{Seen, Within, stopped}
 use Rattle.query.specs.declared.Scanned.{Scanned}
 use Rattle.query.specs.declared.Scanned.the-variants.{Entries, Invalid}
 use Rattle.query.specs.declared.Stop.{Stop}
-use Rattle.query.proofs.Scanning.{scan-start, rest-is}
+use Rattle.query.proofs.Scanning.{scan-start}
 use Rattle.query.proofs.Fields.{seen-none, hubs, within, entry-side}
 use Rattle.query.proofs.scan.Statement.{statement}
 use Rattle.query.proofs.scan.Tie as tie
@@ -52,7 +53,7 @@ rest-slot c = rw (c .stop .given .1) at (c .before .before .skim .ensures .slot)
 rest : (c : tie.After-stop Inv-loop μ-loop) (b : Bool)
     → zeros? (take (length (slots (c .before .before)) - c .stop .given .0 .0) (drop (c .stop .given .0 .0) (slots (c .before .before)))) ≡ b
     → cond b (Entries (c .stop .given .0 .0)) Invalid ≡ whole (c .before .before)
-rest c b e = sym (skimmed (c .before .before) (c .stop .given .1) ∙ rest-is (slots (c .before .before)) (c .stop .given .0 .0) b e)
+rest c b e = sym (skimmed (c .before .before) (c .stop .given .1) ∙ checked-zeros Entries Invalid (slots (c .before .before)) (c .stop .given .0 .0) b e)
 
 -- at an entry that is to be looked at
 fresh-slot : (c : tie.After-stop2 Inv-loop μ-loop)
