@@ -1,5 +1,5 @@
 -- From the public calls to their C forms.
-use mathlib.Core.Path.{_≡_, refl, ap, _∙_}
+use mathlib.Core.Path.{_≡_, refl, sym, ap, _∙_}
 use mathlib.Core.Bool.{true, false, cond}
 use mathlib.Core.List.{List, [], _∷_}
 use Prim.Native.Nat.{ℕ, _*_, _^_, _≤_}
@@ -13,6 +13,7 @@ use Rattle.model.specs.Query.{Answered}
 use Rattle.model.specs.declared.Refusal.{Refusal}
 use Rattle.model.specs.declared.SearchReply.{SearchReply}
 use Rattle.model.specs.declared.Answer.{Answer}
+use Rattle.model.specs.declared.Answer.the-variants.{Accepted, Refused}
 use Rattle.model.proofs.Tests.{test-true, test-false, test-eq, by-test}
 use Rattle.model.proofs.Patterns.{test-keyed, folded}
 use Rattle.model.proofs.Replies.{number-some}
@@ -61,7 +62,7 @@ changed {words} {h = h} {made = made} e hands meets b =
     }
 
 -- a card that is refused hands back none
-pub kept : {words edges index work : List ℕ} {m : Memory} {c : Change} {answer : Answer} {r : ℕ}
+kept : {words edges index work : List ℕ} {m : Memory} {c : Change} {answer : Answer} {r : ℕ}
     → length words ≡ 2 → c .handed ≡ none → Leaves c answer edges index work → r ≡ answerOf answer → ChangesInC words m c r words edges index work
 kept {words} e hands l q =
     let t = two words e in
@@ -79,18 +80,27 @@ read-result : (card : List ℕ) (m : Memory)
 unfolding readCall readRefusal
 read-result card m = (_, settled none (headerOf card) (edgesOf (drop headBytes card)) m _ tt)
 
-pub read-accepted : (card : List ℕ) (m : Memory) → 0 ≡ readCall card m .answer → readCall card m .handed ≡ back (headerOf card)
+read-accepted : (card : List ℕ) (m : Memory) → 0 ≡ readCall card m .answer → readCall card m .handed ≡ back (headerOf card)
 read-accepted card m e =
     let (n, r) = read-result card m in
     elim (decLt 0 n) [ yes h ↦ absurd (omega (arith, h, r .answer h, e)) | no h ↦ ap (λ (c : Change). c .handed) (r .accepted (omega (arith, h))) ]
 
-pub read-refused : (card : List ℕ) (m : Memory) (refusal : Refusal) → numberOf refusal ≡ readCall card m .answer → readCall card m .handed ≡ none
+read-refused : (card : List ℕ) (m : Memory) (refusal : Refusal) → numberOf refusal ≡ readCall card m .answer → readCall card m .handed ≡ none
 read-refused card m refusal e =
     let (n, r) = read-result card m in
     elim (decLt 0 n) [
       | yes h ↦ r .handed h
       | no h ↦ absurd (let z = ap (λ (c : Change). c .answer) (r .accepted (omega (arith, h))) in omega (arith, z, e, number-some refusal))
     ]
+
+module _ (card : List ℕ) {words edges index work : List ℕ} {m : Memory} {made : Changed} {r : ℕ} (e : length words ≡ 2) (meets : Meets (readCall card m) made edges index work) where
+  pub card-refused : {refusal : Refusal} → made .answer ≡ Refused refusal → r ≡ numberOf refusal → ChangesInC words m (readCall card m) r words edges index work
+  card-refused {refusal} told q =
+      let number : numberOf refusal ≡ answerOf (made .answer) = sym (ap answerOf told) in
+      kept e (read-refused card m refusal (number ∙ meets .leaves .answer)) (meets .leaves) (q ∙ number)
+
+  pub card-accepted : {words′ : List ℕ} → made .answer ≡ Accepted → HandsBack made r words′ → ChangesInC words m (readCall card m) r words′ edges index work
+  card-accepted told b = changed e (read-accepted card m (sym (ap answerOf told) ∙ meets .leaves .answer)) meets b
 
 -- ---- calls that change no record
 

@@ -1,7 +1,5 @@
 -- `rlc_c::rlc_read_card` meets its contract.
-use mathlib.Core.Path.{sym, ap, _∙_}
-use Rattle.model.specs.Replies.{answerOf}
-use Rattle.rlc_c.proofs.Handing.{untouched, changed, kept, read-accepted, read-refused}
+use Rattle.rlc_c.proofs.Handing.{untouched, card-refused, card-accepted}
 use borrow.Author.Needs.{needs}
 use Rattle.rlc_c.proofs.rlc_read_card.Statement.{statement}
 use Rattle.rlc_c.proofs.rlc_read_card.Tie as tie
@@ -31,9 +29,7 @@ returns-2 : tie.Need-returns-2
 returns-2 c =
     let told = c .before .before in
     let call = told .before .before .before .before .before .before .before .before in
-    let meets = call .read-card .ensures in
-    let number = sym (ap answerOf (told .answer .given .1)) in
-    kept (call .before .before .before .before .if1 .left) (read-refused _ _ (told .answer .given .0 .0) (number ∙ meets .leaves .answer)) (meets .leaves) (c .refusal-number .ensures ∙ number)
+    card-refused _ (call .before .before .before .before .if1 .left) (call .read-card .ensures) (told .answer .given .1) (c .refusal-number .ensures)
 
 enum-told : tie.Need-enum-told
 enum-told c = search needs
@@ -58,8 +54,7 @@ returns-3 c =
     let back = c .before .before in
     let told = back .before .before in
     let call = told .before .before .before .before .before .before .before .before in
-    let meets = call .read-card .ensures in
-    changed (call .before .before .before .before .if1 .left) (read-accepted _ _ (sym (ap answerOf (told .enum-told .given .1)) ∙ meets .leaves .answer)) meets (back .hand-back .ensures)
+    card-accepted _ (call .before .before .before .before .if1 .left) (call .read-card .ensures) (told .enum-told .given .1) (back .hand-back .ensures)
 
 pub rlc-read-card-spec : {M : Type 1} → statement M
 rlc-read-card-spec =
