@@ -6,13 +6,14 @@ use Prim.Native.Nat.{ℕ, _+_, _-_, _≤_, _<_}
 use native.Mathlib.Omega.{arith}
 use lib.Dec.{ltb}
 use lib.ListN.{length, getD, take, drop, replicate, length-drop}
-use lib.Seq.{length-take-le, take-all, getD-take, getD-drop, ext-getD}
+use lib.Seq.{length-take-le, getD-take, getD-drop, ext-getD}
 use Rattle.model.specs.Lists.{filled, zeroed}
 use Rattle.model.specs.Edges.{Graph}
 use Rattle.model.specs.Entries.{determined}
 use Rattle.model.specs.declared.Answer.the-variants.{Accepted, Refused}
 use Rattle.model.specs.declared.Refusal.the-variants.{IndexSlots}
 use Rattle.model.proofs.Tests.{test-lt, test-yields, test-fails}
+use Rattle.model.proofs.Lists.{part-all}
 use Rattle.calls.specs.Change.{Header, graphOf, Memory, none}
 use Rattle.calls.proofs.Change.{settle-fits, settle-short}
 use Rattle.edges.specs.Memory.{Narrow}
@@ -74,18 +75,15 @@ module _ {h : Header} {n : ℕ} {edges index work : List ℕ} (s : Settleable h 
     abbrev rest : List ℕ
     rest = take (length work′ - savedNumbers) (drop savedNumbers work′)
 
-    rest-is : rest ≡ drop savedNumbers work′
-    rest-is = take-all (length work′ - savedNumbers) (drop savedNumbers work′) (omega (arith, length-drop savedNumbers work′))
-
     rest-long : length edges ≤ length rest
-    rest-long = omega (arith, ap length rest-is, length-drop savedNumbers work′, v .len, s .room, s .few)
+    rest-long = omega (arith, ap length (part-all work′ savedNumbers), length-drop savedNumbers work′, v .len, s .room, s .few)
 
     restored : take (length edges) rest ≡ savedIn work edges
     restored =
         let size : length (take (length edges) rest) ≡ length edges = length-take-le (length edges) rest rest-long in
         ext-getD 0 (take (length edges) rest) (savedIn work edges) (size ∙ sym saved-size) (λ i q.
         getD-take (length edges) rest i 0 (omega (arith, q, size))
-        ∙ ap (λ (l : List ℕ). getD l i 0) rest-is
+        ∙ ap (λ (l : List ℕ). getD l i 0) (part-all work′ savedNumbers)
         ∙ getD-drop savedNumbers work′ i 0
         ∙ v .same (savedNumbers + i) (omega arith) (omega (arith, q, size, s .few))
         ∙ sym (getD-drop savedNumbers work i 0)
