@@ -43,6 +43,7 @@ label? c = within? 1 mostLabel c
 unfoldable pub edge? : ℕ → ℕ → Bool
 edge? vertices x = ltb (fromOf x) vertices && (label? (labelOf x) && ltb (toOf x) vertices)
 
+-- every slot is zero
 unfoldable pub zeros? : List ℕ → Bool
 zeros? [] = true
 zeros? (x ∷ xs) = eqb x 0 && zeros? xs
@@ -55,6 +56,7 @@ rising? f prev (x ∷ xs) =
     let more = ltb prev x && (f x && rising? f x xs) in
     cond (eqb x 0) zeros more
 
+-- edges that rise so
 unfoldable pub risingEdges? : ℕ → ℕ → List ℕ → Bool
 risingEdges? vertices prev xs = rising? (edge? vertices) prev xs
 

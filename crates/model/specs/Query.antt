@@ -35,6 +35,7 @@ code? longest code = let l = digits mostLongest code in keyed? longest l && own?
 unfoldable pub entry? : ℕ → ℕ → ℕ → Bool
 entry? vertices longest x = ltb (sideOf x) 2 && (ltb (ownerOf x) vertices && (ltb (hubOf x) vertices && code? longest (codeOf x)))
 
+-- entries that rise from above prev, then zeros
 unfoldable pub risingEntries? : ℕ → ℕ → ℕ → List ℕ → Bool
 risingEntries? vertices longest prev xs = rising? (entry? vertices longest) prev xs
 
