@@ -47,8 +47,8 @@ module _ {vertices longest : ℕ} {edges order w : List ℕ} {room : ℕ} (s : S
         record {
           ready = ready h;
           chosen = record { size = refl; more = more; most = most; labels = none };
+          sources = record { long = omega (arith, r .keeps .len, s .there); all = λ i a t l. absurd (omega arith) };
           sourced = record {
-            long = omega (arith, r .keeps .len, s .there);
             least = omega arith;
             most = omega arith;
             all = λ a t l trail. r .all a l;

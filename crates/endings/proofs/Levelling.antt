@@ -1,16 +1,16 @@
 -- The rows of one word filled: where it leads, and the vertices from which one label more and then the word can be spelled.
 use mathlib.Core.Path.{_≡_, sym, _∙_}
 use mathlib.Core.List.{List, _∷_}
-use mathlib.Core.Logic.{_⊎_, ⊎-elim}
+use mathlib.Core.Logic.{⊎-elim}
 use Prim.Native.Nat.{ℕ, suc, _+_, _-_, _/_, _≤_, _<_}
 use native.Mathlib.Omega.{arith}
 use lib.ListN.{getD, take, drop}
 use lib.Seq.{take-all}
 use Rattle.model.specs.Limits.{mostVertices, leastWork}
 use Rattle.rows.specs.Rows.{cell, On}
-use Rattle.rows.specs.Room.{parentRows, tempRows}
+use Rattle.rows.specs.Room.{parentRows, openRow}
 use Rattle.rows.proofs.Rows.{steps-same}
-use Rattle.steps.specs.Steps.{Trail, Word, Sourced, Among, Parented, Branchable, Branched}
+use Rattle.steps.specs.Steps.{Trail, Word, Sources, Among, Parented, Branchable, Branched}
 use Rattle.steps.proofs.Trails.{trail-edge}
 use Rattle.steps.proofs.Kept.{keeps-cell}
 use Rattle.staging.proofs.Adding.{outcome-since}
@@ -28,24 +28,18 @@ module _ {edges slots digits w : List ℕ} {d starts longest room cnt : ℕ} (n 
   pub is-word : Word word
   is-word = record { short = omega (arith, word-length (n .chosen), n .chosen .more, n .chosen .most); labels = n .chosen .labels }
 
-  pub digits-ready : Word (take (4 - (4 - d)) (drop (4 - d) digits)) × Sourced edges (take (4 - (4 - d)) (drop (4 - d) digits)) w starts
-  digits-ready = rw digits-word (is-word, n .sourced)
+  pub digits-ready : Word (take (4 - (4 - d)) (drop (4 - d) digits)) × Sources edges (take (4 - (4 - d)) (drop (4 - d) digits)) w
+  digits-ready = rw digits-word (is-word, n .sources)
 
   -- ---- the parent's rows
   pub parented-word : {w₁ : List ℕ} → Parented edges (take (4 - (4 - d)) (drop (4 - d) digits)) w w₁ → Parented edges word w w₁
   parented-word p = rw digits-word at p
 
   module _ {w₁ : List ℕ} (p : Parented edges word w w₁) where
-    outside : (r : ℕ) → 512 ≤ r → r < tempRows → Among parentRows mostVertices r ⊎ Among tempRows 7 r → ⊥
-    outside r h k = ⊎-elim (λ a. omega (arith, a .most)) (λ a. omega (arith, a .least))
-
-    steps-outside : (r : ℕ) → r < mostVertices → Among parentRows mostVertices r ⊎ Among tempRows 7 r → ⊥
-    steps-outside r h = ⊎-elim (λ a. omega (arith, a .least)) (λ a. omega (arith, a .least))
-
     pub branchable : Branchable w₁ starts (baseOf d)
     branchable =
         record {
-          long = omega (arith, p .keeps .len, n .sourced .long);
+          long = omega (arith, p .keeps .len, n .stocked .there);
           starts-row = omega (arith, n .sourced .most);
           base-row = omega (arith, n .chosen .more, n .chosen .most);
           apart = λ a. ⊎-elim
@@ -56,10 +50,6 @@ module _ {edges slots digits w : List ℕ} {d starts longest room cnt : ℕ} (n 
 
     -- ---- and the children's
     module _ {w₂ : List ℕ} (b : Branched edges w₁ starts (baseOf d) w₂) where
-      kept : (r : ℕ) → (Among (baseOf d) 8 r → ⊥) → (Among parentRows mostVertices r ⊎ Among tempRows 7 r → ⊥)
-          → (j : ℕ) → j < mostVertices → cell w₂ r j ≡ cell w r j
-      kept r f g j h = keeps-cell (b .keeps) r f j h ∙ keeps-cell (p .keeps) r g j h
-
       pub level-ready : Level edges slots digits w₂ d longest room cnt
       level-ready =
           record {
@@ -70,7 +60,7 @@ module _ {edges slots digits w : List ℕ} {d starts longest room cnt : ℕ} (n 
               all = λ x y h k t. parents x h y k ∙ p .all x y h k t;
             };
             children = record { all = children };
-            quiet = λ x y s. n .quiet x y (steps-same (λ h. kept x (λ a. omega (arith, a .least)) (steps-outside x h)) y .0 s);
+            quiet = λ x y s. p .quiet x y (steps-same (λ h. keeps-cell (b .keeps) x (λ a. omega (arith, a .least))) y .0 s);
             stocked = record { count = n .stocked .count; there = omega (arith, b .keeps .len, p .keeps .len, n .stocked .there) };
           }
         where
@@ -80,7 +70,7 @@ module _ {edges slots digits w : List ℕ} {d starts longest room cnt : ℕ} (n 
           children : (c a t : ℕ) → c < 8 → a < mostVertices → Trail edges a (suc c ∷ word) t → On w₂ (baseOf d + c) a
           children c a t h k trail =
               let (m, l, stands, rest) = trail-edge trail in
-              let on = keeps-cell (p .keeps) starts (outside starts (omega (arith, n .sourced .least)) (n .sourced .most)) m l ∙ n .sourced .all m t l rest in
+              let on = keeps-cell (p .keeps) starts (λ k. omega (arith, n .sourced .least)) m l ∙ n .sourced .all m t l rest in
               b .all c a h k (record { b = m; small = l; stands = stands; on = on })
 
       pub levelled : {w₃ : List ℕ} {r : ℕ} → Leaved edges digits w₂ d longest room cnt 8 w₃ r → Levelled edges digits w d longest room cnt w₃ r
@@ -97,8 +87,8 @@ module _ {edges slots digits w : List ℕ} {d starts longest room cnt : ℕ} (n 
             };
             quiet = v .quiet;
             outcome = outcome-since (v .outcome) (b .keeps .len ∙ p .keeps .len)
-                (λ i h. b .keeps .same i (λ a. omega (arith, a .most, n .chosen .more, n .chosen .most)) ∙ p .keeps .same i (⊎-elim (λ a. omega (arith, a .most)) (λ a. omega (arith, a .most))));
+                (λ i h. b .keeps .same i (λ a. omega (arith, a .most, n .chosen .more, n .chosen .most)) ∙ p .keeps .same i (λ a. omega arith));
           }
         where
-          same : (k : ℕ) → k < leastWork → 512 ≤ k / 4 → k / 4 < tempRows → (Among (baseOf d) 8 (k / 4) → ⊥) → getD w₃ k 0 ≡ getD w k 0
-          same k h l m a = v .spared .same k h (omega arith) m ∙ (b .keeps .same k a ∙ p .keeps .same k (outside (k / 4) l m))
+          same : (k : ℕ) → k < leastWork → 512 ≤ k / 4 → k / 4 < openRow → (Among (baseOf d) 8 (k / 4) → ⊥) → getD w₃ k 0 ≡ getD w k 0
+          same k h l m a = v .spared .same k h (omega arith) m ∙ (b .keeps .same k a ∙ p .keeps .same k (λ x. omega arith))

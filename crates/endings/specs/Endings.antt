@@ -10,8 +10,8 @@ use Rattle.model.specs.Patterns.{code}
 use Rattle.model.specs.Hubs.{Picked}
 use Rattle.model.specs.Suffixes.{Beyond, Leaf, Some}
 use Rattle.rows.specs.Rows.{On, Step}
-use Rattle.rows.specs.Room.{parentRows, childRows, rootRow}
-use Rattle.steps.specs.Steps.{Ready, Trail, Sourced}
+use Rattle.rows.specs.Room.{parentRows, childRows, rootRow, openRow}
+use Rattle.steps.specs.Steps.{Ready, Trail, Sources}
 use Rattle.closure.specs.Closing.{Plus}
 use Rattle.staging.specs.Stage.{Outcome}
 use Rattle.hubs.specs.Pattern.{Spared}
@@ -45,6 +45,12 @@ baseOf d = childRows + 8 * d
 pub record Before (d starts : ℕ) : Type 0 where
   pub lies : (starts < baseOf d) ⊎ (starts ≡ rootRow)
 
+-- it has every vertex from which the word can be spelled
+pub record Sourced (edges l w : List ℕ) (starts : ℕ) : Type 0 where
+  pub least : childRows ≤ starts
+  pub most : starts < openRow
+  pub all : (a t : ℕ) → a < mostVertices → Trail edges a l t → On w starts a
+
 -- there is room for the slots
 pub record Stocked (w : List ℕ) (room cnt : ℕ) : Type 0 where
   pub count : cnt ≤ room
@@ -53,6 +59,7 @@ pub record Stocked (w : List ℕ) (room cnt : ℕ) : Type 0 where
 pub record Node (edges slots digits w : List ℕ) (d starts longest room cnt : ℕ) : Type 0 where
   pub ready : Ready edges slots
   pub chosen : Chosen digits d longest
+  pub sources : Sources edges (wordOf digits d) w
   pub sourced : Sourced edges (wordOf digits d) w starts
   pub before : Before d starts
   pub quiet : (a b : ℕ) → Step w a b → ⊥

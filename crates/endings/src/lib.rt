@@ -96,7 +96,7 @@ fn level(
     ensures { λ r. ⌜ Levelled (now (edges .entry)) digits (now (w .entry)) d longest room cnt (now (w .exit)) r ⌝ }
 {
     let start = 4 - d;
-    steps::fill_parent(edges, slots, &digits[start..], w, starts);
+    steps::fill_parent(edges, slots, &digits[start..], w);
     steps::branch(edges, w, starts, rows::CHILDREN + 8 * d);
     leaves(edges, slots, digits, d, w, longest, room, cnt)
 }
@@ -127,17 +127,8 @@ pub fn node(
     while c < 8 {
         let row = rows::CHILDREN + 8 * d + c;
         if rows::next(w, row, 0) < 256 {
-            n = node(
-                edges,
-                slots,
-                child(digits, d, c),
-                d + 1,
-                w,
-                row,
-                longest,
-                room,
-                n,
-            );
+            let next = child(digits, d, c);
+            n = node(edges, slots, next, d + 1, w, row, longest, room, n);
             if room < n {
                 return n;
             }

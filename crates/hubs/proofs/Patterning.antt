@@ -7,7 +7,7 @@ use native.Mathlib.Omega.{arith}
 use lib.ListN.{getD}
 use Rattle.model.specs.Limits.{mostVertices, leastWork}
 use Rattle.rows.specs.Rows.{cell, On, Step}
-use Rattle.rows.specs.Room.{tempRows}
+use Rattle.rows.specs.Room.{openRow}
 use Rattle.rows.proofs.Rows.{same-row}
 use Rattle.closure.specs.Closing.{Plus, Closable, Closed}
 use Rattle.closure.proofs.Plus.{plus-then, plus-from, plus-as}
@@ -24,7 +24,7 @@ use Rattle.hubs.specs.Pattern.{Spared, Sided, Either, out, into, Pattern
 pub spared-then : {w w′ w″ : List ℕ} → Spared w w′ → Spared w′ w″ → Spared w w″
 spared-then s t = record { len = t .len ∙ s .len; same = λ k h l m. t .same k h l m ∙ s .same k h l m }
 
-pub spared-row : {w w′ : List ℕ} → Spared w w′ → (r : ℕ) → mostVertices ≤ r → r < tempRows → (j : ℕ) → j < mostVertices → cell w′ r j ≡ cell w r j
+pub spared-row : {w w′ : List ℕ} → Spared w w′ → (r : ℕ) → mostVertices ≤ r → r < openRow → (j : ℕ) → j < mostVertices → cell w′ r j ≡ cell w r j
 spared-row {w} {w′} s r h l = same-row w w′ r (λ k q. s .same (r * 4 + k) (omega arith) (omega arith) (omega arith))
 
 -- ---- memory that differs in row `picked` and behind number 4,096 only
@@ -151,7 +151,7 @@ module _ {edges slots w : List ℕ} {label starts code room cnt : ℕ} (p : Patt
                   (λ i h. c .others i (omega arith) (λ q. omega arith) (λ q. omega arith) ∙ f .keeps .same i (⊎-elim (λ q. omega arith) (λ q. omega arith)));
             }
           where
-            same : (k : ℕ) → k < leastWork → mostVertices ≤ k / 4 → k / 4 < tempRows → getD w₄ k 0 ≡ getD w k 0
+            same : (k : ℕ) → k < leastWork → mostVertices ≤ k / 4 → k / 4 < openRow → getD w₄ k 0 ≡ getD w k 0
             same k h l m = e .keeps .same k (λ q. omega arith) ∙ s .kept k h (λ q. omega arith)
                 ∙ c .others k (omega arith) (λ q. omega arith) (λ q. omega arith) ∙ f .keeps .same k (⊎-elim (λ q. omega arith) (λ q. omega arith))
 

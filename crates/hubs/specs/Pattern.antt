@@ -7,15 +7,15 @@ use lib.ListN.{length, getD}
 use Rattle.model.specs.Limits.{mostVertices, leastWork, hubUnit}
 use Rattle.model.specs.Hubs.{Picked}
 use Rattle.rows.specs.Rows.{Step}
-use Rattle.rows.specs.Room.{tempRows}
+use Rattle.rows.specs.Room.{openRow}
 use Rattle.closure.specs.Closing.{Plus}
 use Rattle.staging.specs.Stage.{Outcome, Hubbed, Outward}
 use Rattle.relation.specs.Relation.{Led, Fillable}
 
--- the numbers below 4,096 are kept, but for the step rows and the rows from `temp` on
+-- the numbers below 4,096 are kept, but for the step rows and the rows from `open` on
 pub record Spared (w w′ : List ℕ) : Type 0 where
   pub len : length w′ ≡ length w
-  pub same : (k : ℕ) → k < leastWork → mostVertices ≤ k / 4 → k / 4 < tempRows → getD w′ k 0 ≡ getD w k 0
+  pub same : (k : ℕ) → k < leastWork → mostVertices ≤ k / 4 → k / 4 < openRow → getD w′ k 0 ≡ getD w k 0
 
 -- the entries of both sides, by the step rows
 abbrev pub Sided : List ℕ → ℕ → ℕ → Type 0

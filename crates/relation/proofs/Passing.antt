@@ -8,7 +8,7 @@ use native.Mathlib.Decide.{ℕ-discrete, decLt}
 use Rattle.model.specs.Limits.{mostVertices}
 use Rattle.rows.specs.Rows.{cell, On, Becomes, Next, Step}
 use Rattle.rows.proofs.Rows.{steps-kept}
-use Rattle.rows.specs.Room.{parentRows, tempRows, gatheredRow}
+use Rattle.rows.specs.Room.{parentRows, openRow, gatheredRow}
 use Rattle.steps.specs.Steps.{Keeps, Gathers}
 use Rattle.steps.proofs.Kept.{keeps-none, keeps-then, keeps-becomes, keeps-cell}
 use Rattle.relation.specs.Relation.{Led, Fillable, Forth}
@@ -22,7 +22,7 @@ Forward r = (r < mostVertices) ⊎ (r ≡ gatheredRow)
 
 module _ {w w′ : List ℕ} (h : Keeps w w′ Forward) where
   -- the parent's rows and `starts` are kept
-  spared : (r : ℕ) → mostVertices ≤ r → r < tempRows → (j : ℕ) → j < mostVertices → cell w′ r j ≡ cell w r j
+  spared : (r : ℕ) → mostVertices ≤ r → r < openRow → (j : ℕ) → j < mostVertices → cell w′ r j ≡ cell w r j
   spared r l m = keeps-cell h r (⊎-elim (λ e. omega arith) (λ e. omega arith))
 
   parent : {b : ℕ} → b < mostVertices → (t : ℕ) → t < mostVertices → cell w′ (parentRows + b) t ≡ cell w (parentRows + b) t

@@ -6,7 +6,7 @@ use Prim.Native.Nat.{ℕ, _≤_, _<_}
 use lib.ListN.{length}
 use Rattle.model.specs.Limits.{mostVertices, mostLabel, leastWork}
 use Rattle.rows.specs.Rows.{On, Step}
-use Rattle.rows.specs.Room.{childRows, tempRows, gatheredRow}
+use Rattle.rows.specs.Room.{childRows, openRow, gatheredRow}
 use Rattle.steps.specs.Steps.{Ready, Keeps, Gathers}
 
 -- the label and the parent's word lead from a to b
@@ -22,7 +22,7 @@ pub record Fillable (edges slots w : List ℕ) (label starts : ℕ) : Type 0 whe
   pub label-least : 1 ≤ label
   pub label-most : label ≤ mostLabel
   pub least : childRows ≤ starts
-  pub most : starts < tempRows
+  pub most : starts < openRow
   pub quiet : (a b : ℕ) → Step w a b → ⊥
   pub sources : (a b : ℕ) → Led edges w label a b → On w starts a
 

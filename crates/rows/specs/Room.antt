@@ -22,10 +22,6 @@ childRows = 768
 abbrev pub rootRow : ℕ
 rootRow = 816
 
--- seven rows: the vertices after 0 to 6 labels
-abbrev pub tempRows : ℕ
-tempRows = 817
-
 -- single rows, each named by what uses it
 abbrev pub openRow : ℕ
 openRow = 824

@@ -14,8 +14,6 @@ pub const CHILDREN: usize = 768;
 
 pub const ROOT: usize = 816;
 
-pub const TEMP: usize = 817;
-
 pub const OPEN: usize = 824;
 
 pub const TODO: usize = 825;

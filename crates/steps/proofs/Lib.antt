@@ -1,5 +1,6 @@
 pub mod Trails
 pub mod Kept
 pub mod Runs
-pub mod Spelling
+pub mod Filling
+pub mod Prepending
 pub mod Branching

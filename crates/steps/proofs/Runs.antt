@@ -1,5 +1,5 @@
--- The run of edges of one vertex and label, and the runs of the vertices of a row.
-use mathlib.Core.Path.{_≡_, refl, sym, subst, ap, _∙_}
+-- The run of edges of one vertex and label.
+use mathlib.Core.Path.{_≡_, refl, sym, subst, _∙_}
 use mathlib.Core.Logic.{_⊎_, inl, inr, ⊎-elim, _↔_}
 use mathlib.Core.List.{List, Memᴰ·cast}
 use Prim.Native.Nat.{ℕ, _+_, _-_, _*_, _≤_, _<_}
@@ -9,16 +9,15 @@ use native.Mathlib.Decide.{ℕ-discrete, decLt}
 use lib.ListN.{length, getD}
 use Rattle.model.specs.Lists.{_∈_, Rising}
 use Rattle.model.specs.Limits.{mostVertices}
-use Rattle.model.specs.Edges.{edgeNumber}
 use Rattle.model.proofs.Lists.{getD-in, in-getD, rising-le}
 use Rattle.edges.specs.Slots.{Skipped}
 use Rattle.edges.proofs.Slots.{skipped-least}
-use Rattle.rows.specs.Rows.{cell, On, Becomes, Next}
+use Rattle.rows.specs.Rows.{cell, On, Becomes}
 use Rattle.rows.specs.Room.{parentRows, gatheredRow}
-use Rattle.rows.proofs.Rows.{becomes-as, row-kept, next-as}
-use Rattle.steps.specs.Steps.{Gathers}
-use Rattle.steps.specs.Stages.{Follows}
-use Rattle.steps.proofs.Kept.{gains-none, gains-more, gains-all}
+use Rattle.rows.proofs.Rows.{becomes-as, row-kept}
+use Rattle.steps.specs.Steps.{Keeps, Via}
+use Rattle.steps.specs.Stages.{Apart}
+use Rattle.steps.proofs.Kept.{among-at, keeps-becomes, keeps-cell, gains-none, gains-more, gains-all}
 
 -- one of the first i edges has P
 pub record Some (edges : List ℕ) (i : ℕ) (P : ℕ → Type 0) : Type 0 where
@@ -102,72 +101,33 @@ module _ {edges : List ℕ} {key r : ℕ} {Q : ℕ → ℕ → Type 0} where
               | no l ↦ absurd (omega (arith, k .is, k .inside, x .small, end (omega (arith, k .inside)), rising-le s i (k .i) (omega arith) (k .inside)))
             ]
 
--- the vertices that the edges key + t lead to
-pub lead-all : {edges : List ℕ} {key r : ℕ} {w w′ : List ℕ} → Becomes w w′ r (λ t. On w r t ⊎ Leads edges key (λ b t. t ≡ b) t) → Becomes w w′ r (λ t. On w r t ⊎ (key + t ∈ edges))
-lead-all {key = key} g = becomes-as g (λ t h. (
-  ⊎-elim inl (λ x. inr (Memᴰ·cast (ap (λ (b : ℕ). key + b) (x .leads)) (x .stands))),
-  ⊎-elim inl (λ m. inr (record { b = t; small = h; stands = m; leads = refl })),
+-- ---- the rows that the run leads to, of those from `base` on
+
+pub extend-more : {edges w w′ w″ : List ℕ} {key base r i : ℕ} → Apart w base r → Running edges key r (λ b. On w (base + b)) w w′ i → i < length edges
+    → getD edges i 0 < key + 256 → Becomes w′ w″ r (λ t. On w′ r t ⊎ On w′ (base + (getD edges i 0 - key)) t)
+    → Running edges key r (λ b. On w (base + b)) w w″ (i + 1)
+extend-more {edges} {w} {w′} {w″} {key} {base} {r} {i} d g l high h =
+    run-more g l high (becomes-as h (λ t k. (⊎-elim inl (λ o. inr (sym (kept t k) ∙ o)), ⊎-elim inl (λ o. inr (kept t k ∙ o)))))
+  where
+    kept : (t : ℕ) → t < mostVertices → cell w′ (base + (getD edges i 0 - key)) t ≡ cell w (base + (getD edges i 0 - key)) t
+    kept = row-kept (g .gains) (base + (getD edges i 0 - key)) (λ e. d .apart (rw (← e) (among-at (getD edges i 0 - key) (omega (arith, run-low g l)))))
+
+pub extend-all : {edges w w′ : List ℕ} {base r s c : ℕ} → Becomes w w′ r (λ t. On w r t ⊎ Leads edges (s * 4096 + c * 256) (λ b. On w (base + b)) t)
+    → Becomes w w′ r (λ t. On w r t ⊎ Via edges w base s c t)
+extend-all g = becomes-as g (λ t _. (
+  ⊎-elim inl (λ x. inr (record { b = x .b; small = x .small; stands = x .stands; on = x .leads })),
+  ⊎-elim inl (λ x. inr (record { b = x .b; small = x .small; stands = x .stands; leads = x .on })),
 ))
 
--- ---- the parent's rows that the run leads to
-
-pub gather-more : {edges w w′ w″ : List ℕ} {key i : ℕ} → Running edges key gatheredRow (λ b. On w (parentRows + b)) w w′ i → i < length edges → getD edges i 0 < key + 256
-    → Becomes w′ w″ gatheredRow (λ t. On w′ gatheredRow t ⊎ On w′ (parentRows + (getD edges i 0 - key)) t)
-    → Running edges key gatheredRow (λ b. On w (parentRows + b)) w w″ (i + 1)
-gather-more {edges} {w} {w′} {w″} {key} {i} g l high h = run-more g l high (becomes-as h (λ t k. (⊎-elim inl (λ o. inr (sym (kept t k) ∙ o)), ⊎-elim inl (λ o. inr (kept t k ∙ o)))))
-  where
-    kept : (t : ℕ) → t < mostVertices → cell w′ (parentRows + (getD edges i 0 - key)) t ≡ cell w (parentRows + (getD edges i 0 - key)) t
-    kept = row-kept (g .gains) (parentRows + (getD edges i 0 - key)) (λ e. omega arith)
+-- rows that are kept lead where they did
+pub via-kept : {edges w w′ : List ℕ} {R : ℕ → Type 0} {base a c t : ℕ} → Keeps w w′ R → ((b : ℕ) → b < mostVertices → R (base + b) → ⊥) → t < mostVertices
+    → Via edges w′ base a c t ↔ Via edges w base a c t
+via-kept {base = base} {t = t} h n k = (
+  λ x. record { b = x .b; small = x .small; stands = x .stands; on = sym (keeps-cell h (base + x .b) (n (x .b) (x .small)) t k) ∙ x .on },
+  λ x. record { b = x .b; small = x .small; stands = x .stands; on = keeps-cell h (base + x .b) (n (x .b) (x .small)) t k ∙ x .on },
+)
 
 -- row `gathered` was emptied first, which left the parent's rows as they were
 pub gather-all : {edges w w′ w″ : List ℕ} {s c : ℕ} → Becomes w w′ gatheredRow (λ _. ⊥)
-    → Becomes w′ w″ gatheredRow (λ t. On w′ gatheredRow t ⊎ Leads edges (s * 4096 + c * 256) (λ b. On w′ (parentRows + b)) t) → Becomes w w″ gatheredRow (Gathers edges w s c)
-gather-all {w} {w′} e g = becomes-as (gains-all e g) (λ t h. (
-  λ x. record { b = x .b; small = x .small; stands = x .stands; on = sym (kept (x .b) (x .small) t h) ∙ x .leads },
-  λ x. record { b = x .b; small = x .small; stands = x .stands; leads = kept (x .b) (x .small) t h ∙ x .on },
-))
-  where
-    kept : (b : ℕ) → b < mostVertices → (t : ℕ) → t < mostVertices → cell w′ (parentRows + b) t ≡ cell w (parentRows + b) t
-    kept b h = row-kept e (parentRows + b) (λ q. omega arith)
-
--- ---- the vertices of row a, one after another
-
--- row b has gained what edges of label c lead to from the vertices below v of row a, and v is the next of them
-pub record Stepping (edges w : List ℕ) (a b c : ℕ) (w′ : List ℕ) (v : ℕ) : Type 0 where
-  pub high : v ≤ mostVertices
-  pub here : v < mostVertices → On w a v
-  pub gains : Becomes w w′ b (λ t. On w b t ⊎ Follows edges w a c v t)
-
-module _ {edges : List ℕ} {a b c : ℕ} where
-  pub step-none : {w : List ℕ} {v : ℕ} → Next w a 0 v → Stepping edges w a b c w v
-  step-none n = record { high = n .high; here = n .here; gains = gains-none (λ t h x. n .gap (x .v) (omega arith) (x .early) (x .on)) }
-
-  pub step-more : {w w′ w″ : List ℕ} {v q : ℕ} → (a ≡ b → ⊥) → v < mostVertices → Stepping edges w a b c w′ v
-      → Becomes w′ w″ b (λ t. On w′ b t ⊎ (edgeNumber v c t ∈ edges)) → Next w″ a (v + 1) q → Stepping edges w a b c w″ q
-  step-more {w} {w′} {w″} {v} {q} apart l g h next = record { high = n .high; here = n .here; gains = gains-more (λ t _. (⊎-elim (wider t) (at t), split t)) (g .gains) h }
-    where
-      n : Next w a (v + 1) q
-      n = next-as (λ j k. row-kept h a apart j k ∙ row-kept (g .gains) a apart j k) next
-
-      wider : (t : ℕ) → Follows edges w a c v t → Follows edges w a c q t
-      wider t x = record { v = x .v; early = omega (arith, x .early, n .low); on = x .on; stands = x .stands }
-
-      at : (t : ℕ) → edgeNumber v c t ∈ edges → Follows edges w a c q t
-      at t m = record { v = v; early = omega (arith, n .low); on = g .here l; stands = m }
-
-      split : (t : ℕ) → Follows edges w a c q t → Follows edges w a c v t ⊎ (edgeNumber v c t ∈ edges)
-      split t x = elim (ℕ-discrete (x .v) v) [
-        | yes e ↦ inr (subst (λ (u : ℕ). edgeNumber u c t ∈ edges) e (x .stands))
-        | no d ↦ inl (record { v = x .v; early = early x d; on = x .on; stands = x .stands })
-      ]
-        where
-          early : (x : Follows edges w a c q t) → (x .v ≡ v → ⊥) → x .v < v
-          early x d = elim (decLt (x .v) v) [ yes k ↦ k | no k ↦ absurd (n .gap (x .v) (omega arith) (x .early) (x .on)) ]
-
-  -- row b was emptied first, which left row a as it was
-  pub step-all : {w w′ w″ : List ℕ} {v : ℕ} → (a ≡ b → ⊥) → Becomes w w′ b (λ _. ⊥) → mostVertices ≤ v → Stepping edges w′ a b c w″ v
-      → Becomes w w″ b (Follows edges w a c mostVertices)
-  step-all apart e m g = becomes-as (gains-all e (g .gains)) (λ t _. (
-    λ x. let h : x .v < mostVertices = omega (arith, x .early, g .high) in record { v = x .v; early = h; on = sym (row-kept e a apart (x .v) h) ∙ x .on; stands = x .stands },
-    λ x. record { v = x .v; early = omega (arith, x .early); on = row-kept e a apart (x .v) (x .early) ∙ x .on; stands = x .stands },
-  ))
+    → Becomes w′ w″ gatheredRow (λ t. On w′ gatheredRow t ⊎ Via edges w′ parentRows s c t) → Becomes w w″ gatheredRow (Via edges w parentRows s c)
+gather-all e g = becomes-as (gains-all e g) (λ t h. via-kept {R = λ r. r ≡ gatheredRow} (keeps-becomes refl e) (λ b l q. omega arith) h)

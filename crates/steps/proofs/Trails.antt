@@ -23,10 +23,6 @@ module _ {edges : List ℕ} where
   pub edge-trail : {a c b t : ℕ} {l : List ℕ} → b < mostVertices → edgeNumber a c b ∈ edges → Trail edges b l t → Trail edges a (c ∷ l) t
   edge-trail = Trail.edge
 
-  pub trail-join : {a m t : ℕ} {l l′ : List ℕ} → Trail edges a l m → Trail edges m l′ t → Trail edges a (l ++ l′) t
-  trail-join Trail.here q = q
-  trail-join (Trail.edge h e p) q = Trail.edge h e (trail-join p q)
-
   pub trail-cut : {a t : ℕ} (l : List ℕ) {l′ : List ℕ} → Trail edges a (l ++ l′) t → (m : ℕ) × Trail edges a l m × Trail edges m l′ t
   trail-cut {a} [] p = (a, Trail.here, p)
   trail-cut (c ∷ l) (Trail.edge h e p) = let (m, q, r) = trail-cut l p in (m, Trail.edge h e q, r)

@@ -1,14 +1,10 @@
 -- The stages between edges and the parent's rows.
-use mathlib.Core.Path.{_≡_}
 use mathlib.Core.List.{List}
-use mathlib.Core.Logic.{_⊎_}
-use Prim.Native.Nat.{ℕ, _<_}
-use Rattle.model.specs.Lists.{_∈_}
-use Rattle.model.specs.Limits.{mostVertices}
-use Rattle.model.specs.Edges.{edgeNumber}
+use Prim.Native.Nat.{ℕ, _+_, _≤_, _<_}
+use lib.ListN.{length}
+use Rattle.model.specs.Limits.{mostVertices, mostLabel, leastWork}
 use Rattle.rows.specs.Rows.{On}
-use Rattle.rows.specs.Room.{tempRows}
-use Rattle.steps.specs.Steps.{Trail, Keeps, Among}
+use Rattle.steps.specs.Steps.{Keeps, Among, Via}
 
 -- row r is the vertices of P
 pub record Row (w : List ℕ) (r : ℕ) (P : ℕ → Type 0) : Type 0 where
@@ -20,14 +16,21 @@ pub record Wiped (w w′ : List ℕ) (base n : ℕ) : Type 0 where
   pub keeps : Keeps w w′ (Among base n)
   pub none : (r j : ℕ) → Among base n r → j < mostVertices → On w′ r j → ⊥
 
--- an edge with label c leads to t from a vertex below p of row a
-pub record Follows (edges w : List ℕ) (a c p t : ℕ) : Type 0 where
-  pub v : ℕ
-  pub early : v < p
-  pub on : On w a v
-  pub stands : edgeNumber v c t ∈ edges
+-- row base + a is then the vertices to which a leads, for every vertex a
+pub record Filled (base : ℕ) (P : ℕ → ℕ → Type 0) (w w′ : List ℕ) : Type 0 where
+  pub keeps : Keeps w w′ (Among base mostVertices)
+  pub rows : (a : ℕ) → a < mostVertices → Row w′ (base + a) (P a)
 
--- row x is where the word leads from s
-pub record Spelt (edges l w w′ : List ℕ) (x s : ℕ) : Type 0 where
-  pub keeps : Keeps w w′ (λ r. (r ≡ x) ⊎ Among tempRows 7 r)
-  pub row : Row w′ x (Trail edges s l)
+-- row r is none of those from `base` on, one for each vertex
+pub record Apart (w : List ℕ) (base r : ℕ) : Type 0 where
+  pub long : leastWork ≤ length w
+  pub base-rows : base + mostVertices ≤ 1024
+  pub row : r < 1024
+  pub apart : Among base mostVertices r → ⊥
+
+-- the rows from `from` on are apart from those from `to` on, and row `starts` has every vertex that leads anywhere by label c and the former
+pub record Prependable (edges w : List ℕ) (c from to starts : ℕ) : Type 0 where
+  pub label : c ≤ mostLabel
+  pub apart : (a : ℕ) → a < mostVertices → Apart w from (to + a)
+  pub starts-row : Apart w to starts
+  pub sources : (a t : ℕ) → a < mostVertices → t < mostVertices → Via edges w from a c t → On w starts a

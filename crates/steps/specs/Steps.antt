@@ -1,15 +1,14 @@
 -- Edges that lead from row to row.
 use mathlib.Core.Path.{_≡_}
 use mathlib.Core.List.{List, [], _∷_}
-use mathlib.Core.Logic.{_⊎_}
-use Prim.Native.Nat.{ℕ, suc, _+_, _/_, _≤_, _<_}
-use lib.ListN.{length, getD}
+use Prim.Native.Nat.{ℕ, suc, _+_, _-_, _*_, _/_, _≤_, _<_}
+use lib.ListN.{length, getD, drop}
 use Rattle.model.specs.Lists.{_∈_, Rising}
 use Rattle.model.specs.Limits.{mostVertices, mostLabel, leastWork}
 use Rattle.model.specs.Edges.{edgeNumber, fromOf, labelOf}
 use Rattle.edges.specs.Slots.{Starts}
-use Rattle.rows.specs.Rows.{On}
-use Rattle.rows.specs.Room.{parentRows, childRows, tempRows, gatheredRow}
+use Rattle.rows.specs.Rows.{On, Step}
+use Rattle.rows.specs.Room.{parentRows, childRows}
 
 -- rising edges with ends below 256 and labels 1 to 8
 pub record Edged (edges : List ℕ) : Type 0 where
@@ -42,16 +41,19 @@ pub record Word (l : List ℕ) : Type 0 where
   pub short : length l ≤ 6
   pub labels : (c : ℕ) → c ∈ l → (1 ≤ c) × (c ≤ mostLabel)
 
--- row `starts` has every vertex from which the word can be spelled
-pub record Sourced (edges l w : List ℕ) (starts : ℕ) : Type 0 where
-  pub long : leastWork ≤ length w
-  pub least : childRows ≤ starts
-  pub most : starts < tempRows
-  pub all : (a t : ℕ) → a < mostVertices → Trail edges a l t → On w starts a
+-- the child row of the word's labels from number i on
+abbrev pub sourceRow : List ℕ → ℕ → ℕ
+sourceRow l i = childRows + 8 * (length l - 1 - i) + (getD l i 0 - 1)
 
--- row 256 + a is then where the word leads from a, for every vertex a
+-- it has every vertex from which they can be spelled
+pub record Sources (edges l w : List ℕ) : Type 0 where
+  pub long : leastWork ≤ length w
+  pub all : (i a t : ℕ) → i < length l → a < mostVertices → Trail edges a (drop i l) t → On w (sourceRow l i) a
+
+-- row 256 + a is then where the word leads from a, for every vertex a, and no vertex steps
 pub record Parented (edges l w w′ : List ℕ) : Type 0 where
-  pub keeps : Keeps w w′ (λ r. Among parentRows mostVertices r ⊎ Among tempRows 7 r)
+  pub keeps : Keeps w w′ (λ r. r < 512)
+  pub quiet : (a b : ℕ) → Step w′ a b → ⊥
   pub only : (a b : ℕ) → a < mostVertices → b < mostVertices → On w′ (parentRows + a) b → Trail edges a l b
   pub all : (a b : ℕ) → a < mostVertices → b < mostVertices → Trail edges a l b → On w′ (parentRows + a) b
 
@@ -74,9 +76,13 @@ pub record Branched (edges w : List ℕ) (starts base : ℕ) (w′ : List ℕ) :
   pub only : (c a : ℕ) → c < 8 → a < mostVertices → On w′ (base + c) a → Enters edges w a (suc c) starts
   pub all : (c a : ℕ) → c < 8 → a < mostVertices → Enters edges w a (suc c) starts → On w′ (base + c) a
 
--- where a walk of label c and then the parent's word leads from s
-pub record Gathers (edges w : List ℕ) (s c t : ℕ) : Type 0 where
+-- an edge with label c leads from a to a vertex whose row, of those from `base` on, has t
+pub record Via (edges w : List ℕ) (base a c t : ℕ) : Type 0 where
   pub b : ℕ
   pub small : b < mostVertices
-  pub stands : edgeNumber s c b ∈ edges
-  pub on : On w (parentRows + b) t
+  pub stands : edgeNumber a c b ∈ edges
+  pub on : On w (base + b) t
+
+-- where a walk of label c and then the parent's word leads from s
+abbrev pub Gathers : List ℕ → List ℕ → ℕ → ℕ → ℕ → Type 0
+Gathers edges w s c t = Via edges w parentRows s c t

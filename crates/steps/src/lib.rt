@@ -1,14 +1,13 @@
 // From edges to rows: where a word leads from each vertex, from where one label more can be spelled, and one label before the parent's word.
+ghost use mathlib.Core.Path.{_≡_};
 ghost use mathlib.Core.Logic.{_⊎_};
 ghost use Prim.Native.Nat.{_+_, _≤_, _<_};
 ghost use lib.ListN.{length};
-ghost use Rattle.model.specs.Lists.{_∈_};
 ghost use Rattle.model.specs.Limits.{mostVertices, mostLabel, leastWork};
-ghost use Rattle.model.specs.Edges.{edgeNumber};
-ghost use Rattle.rows.specs.Rows.{On, Has, Becomes};
+ghost use Rattle.rows.specs.Rows.{On, Becomes};
 ghost use Rattle.rows.specs.Room.{gatheredRow};
-ghost use Rattle.steps.specs.Steps.{Edged, Ready, Word, Sourced, Parented, Branchable, Branched, Gathers};
-ghost use Rattle.steps.specs.Stages.{Wiped, Follows, Spelt};
+ghost use Rattle.steps.specs.Steps.{Edged, Ready, Word, Sources, Parented, Branchable, Branched, Via, Gathers};
+ghost use Rattle.steps.specs.Stages.{Wiped, Apart, Prependable, Filled};
 
 // Empties the n rows from `base` on.
 fn clear_rows(w: &mut [u64], base: usize, n: usize)
@@ -22,66 +21,91 @@ fn clear_rows(w: &mut [u64], base: usize, n: usize)
     }
 }
 
-// Puts into row r every vertex that an edge of the label leads to from v.
-fn lead(edges: &[u32], slots: &[usize], v: usize, label: u32, w: &mut [u64], r: usize)
-    requires { ⌜ Ready (now edges) (now slots) × ((v < mostVertices) × ((label ≤ mostLabel) × Has (now w) r)) ⌝ }
-    ensures { λ _. ⌜ Becomes (now (w .entry)) (now (w .exit)) r (λ t. On (now (w .entry)) r t ⊎ (edgeNumber v label t ∈ now (edges .entry))) ⌝ }
+// Makes row base + a, for every vertex a, a alone: the empty word leads from a vertex to itself.
+fn fill_root(w: &mut [u64], base: usize)
+    requires { ⌜ (base + mostVertices ≤ 1024) × (leastWork ≤ length (now w)) ⌝ }
+    ensures { λ _. ⌜ Filled base (λ a t. t ≡ a) (now (w .entry)) (now (w .exit)) ⌝ }
 {
-    let key = v as u32 * 4096 + label * 256;
+    clear_rows(w, base, 256);
+    let mut a = 0;
+    while a < 256 {
+        rows::mark(w, base + a, a);
+        a += 1;
+    }
+}
+
+// Puts into row r, for every edge of the label from s, the row of the vertex that it leads to, of those from `base` on.
+fn extend(
+    edges: &[u32],
+    slots: &[usize],
+    label: u32,
+    w: &mut [u64],
+    base: usize,
+    r: usize,
+    s: usize,
+)
+    requires { ⌜ Ready (now edges) (now slots) × (Apart (now w) base r × ((label ≤ mostLabel) × (s < mostVertices))) ⌝ }
+    ensures { λ _. ⌜
+        Becomes (now (w .entry)) (now (w .exit)) r
+        (λ t. On (now (w .entry)) r t ⊎ Via (now (edges .entry)) (now (w .entry)) base s label t)
+        ⌝ }
+{
+    let key = s as u32 * 4096 + label * 256;
     let end = key + 256;
-    let mut i = edges::skip(edges, slots[v], key);
+    let mut i = edges::skip(edges, slots[s], key);
     while i < edges.len() {
         let x = edges[i];
         if end <= x {
             return;
         }
         let y = (x - key) as usize;
-        rows::mark(w, r, y);
+        rows::join(w, r, r, base + y);
         i += 1;
     }
 }
 
-// Makes row b the vertices that an edge of the label leads to from a vertex of row a.
-fn step(edges: &[u32], slots: &[usize], label: u32, w: &mut [u64], a: usize, b: usize)
-    requires { ⌜ Ready (now edges) (now slots) × ((label ≤ mostLabel) × ((a < b) × Has (now w) b)) ⌝ }
-    ensures { λ _. ⌜ Becomes (now (w .entry)) (now (w .exit)) b (Follows (now (edges .entry)) (now (w .entry)) a label mostVertices) ⌝ }
+// Makes the rows from `to` on, one for each vertex, those of the label and then the word whose rows are those from `from` on. Row `starts`
+// has every vertex from which both can be spelled.
+fn prepend(
+    edges: &[u32],
+    slots: &[usize],
+    label: u32,
+    w: &mut [u64],
+    from: usize,
+    to: usize,
+    starts: usize,
+)
+    requires { ⌜ Ready (now edges) (now slots) × Prependable (now edges) (now w) label from to starts ⌝ }
+    ensures { λ _. ⌜
+        Filled to (λ a t. Via (now (edges .entry)) (now (w .entry)) from a label t) (now (w .entry)) (now (w .exit))
+        ⌝ }
 {
-    rows::clear(w, b);
-    let mut v = rows::next(w, a, 0);
-    while v < 256 {
-        lead(edges, slots, v, label, w, b);
-        v = rows::next(w, a, v + 1);
-    }
-}
-
-// Makes row x the vertices to which the word leads from s, by a row for the vertices after each number of labels.
-fn spell(edges: &[u32], slots: &[usize], word: &[u8], w: &mut [u64], x: usize, s: usize)
-    requires { ⌜ Ready (now edges) (now slots) × (Word (now word) × (Has (now w) x × (s < mostVertices))) ⌝ }
-    ensures { λ _. ⌜ Spelt (now (edges .entry)) (now (word .entry)) (now (w .entry)) (now (w .exit)) x s ⌝ }
-{
-    rows::clear(w, rows::TEMP);
-    rows::mark(w, rows::TEMP, s);
-    let mut i = 0;
-    while i < word.len() {
-        let at = rows::TEMP + i;
-        step(edges, slots, word[i] as u32, w, at, at + 1);
-        i += 1;
-    }
-    let end = rows::TEMP + i;
-    rows::join(w, x, end, end);
-}
-
-// Makes row 256 + a, for every vertex a, the vertices to which the word leads from a. Row `starts` has every vertex from which it can be spelled.
-pub fn fill_parent(edges: &[u32], slots: &[usize], word: &[u8], w: &mut [u64], starts: usize)
-    requires { ⌜ Ready (now edges) (now slots) × (Word (now word) × Sourced (now edges) (now word) (now w) starts) ⌝ }
-    ensures { λ _. ⌜ Parented (now (edges .entry)) (now (word .entry)) (now (w .entry)) (now (w .exit)) ⌝ }
-{
-    clear_rows(w, rows::PARENT, 256);
+    clear_rows(w, to, 256);
     let mut s = rows::next(w, starts, 0);
     while s < 256 {
-        spell(edges, slots, word, w, rows::PARENT + s, s);
+        extend(edges, slots, label, w, from, to + s, s);
         s = rows::next(w, starts, s + 1);
     }
+}
+
+// Makes row 256 + a, for every vertex a, the vertices to which the word leads from a, label by label from its end: the step rows and the
+// parent's take turns, so that the last label fills the parent's. The step rows are empty afterwards. Every ending of the word has its child row.
+pub fn fill_parent(edges: &[u32], slots: &[usize], word: &[u8], w: &mut [u64])
+    requires { ⌜ Ready (now edges) (now slots) × (Word (now word) × Sources (now edges) (now word) (now w)) ⌝ }
+    ensures { λ _. ⌜ Parented (now (edges .entry)) (now (word .entry)) (now (w .entry)) (now (w .exit)) ⌝ }
+{
+    let mut i = word.len();
+    let mut from = rows::PARENT - i % 2 * 256;
+    fill_root(w, from);
+    while 0 < i {
+        i -= 1;
+        let label = word[i] as usize;
+        let starts = rows::CHILDREN + 8 * (word.len() - 1 - i) + label - 1;
+        let to = rows::PARENT - from;
+        prepend(edges, slots, label as u32, w, from, to, starts);
+        from = to;
+    }
+    clear_rows(w, 0, 256);
 }
 
 // Makes the eight rows from `base` on the vertices with an edge of label 1 to 8 into row `starts`, in one pass over the edges.
@@ -107,20 +131,5 @@ pub fn gather(edges: &[u32], slots: &[usize], label: u32, w: &mut [u64], s: usiz
     ensures { λ _. ⌜ Becomes (now (w .entry)) (now (w .exit)) gatheredRow (Gathers (now (edges .entry)) (now (w .entry)) s label) ⌝ }
 {
     rows::clear(w, rows::GATHERED);
-    let key = s as u32 * 4096 + label * 256;
-    let end = key + 256;
-    let mut i = edges::skip(edges, slots[s], key);
-    while i < edges.len() {
-        let x = edges[i];
-        if end <= x {
-            return;
-        }
-        rows::join(
-            w,
-            rows::GATHERED,
-            rows::GATHERED,
-            rows::PARENT + (x - key) as usize,
-        );
-        i += 1;
-    }
+    extend(edges, slots, label, w, rows::PARENT, rows::GATHERED, s);
 }

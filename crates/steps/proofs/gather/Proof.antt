@@ -1,122 +1,34 @@
--- `steps::gather` meets its contract: row `gathered` has gained the parent's rows of what the edges of the run before slot i lead to.
-use mathlib.Core.Path.{_∙_}
-use Prim.Native.Nat.{ℕ, _+_, _-_, _<_}
+-- `steps::gather` meets its contract: row `gathered` is emptied, and gains the parent's rows.
 use native.Mathlib.Omega.{arith}
-use lib.ListN.{length}
-use Rattle.edges.proofs.Slots.{under-up}
-use Rattle.rows.specs.Rows.{On, Has}
-use Rattle.rows.specs.Room.{parentRows, gatheredRow}
-use Rattle.rows.proofs.Rows.{has-kept}
-use Rattle.steps.proofs.Runs.{Running, run-none, run-low, run-all, gather-more, gather-all}
+use borrow.Author.Needs.{needs}
+use Rattle.steps.proofs.Runs.{gather-all}
 use Rattle.steps.proofs.gather.Statement.{statement}
 use Rattle.steps.proofs.gather.Tie as tie
 
-abbrev Inv-loop : tie.InvT-loop
-Inv-loop edges slots label w₀ s key end i₀ w i = Running edges key gatheredRow (λ b. On w₀ (parentRows + b)) w₀ w i
-
-abbrev μ-loop : tie.MeasureT-loop
-μ-loop edges slots label w₀ s key end i₀ w i = length edges - i
-
-has : (c : tie.At-loop Inv-loop μ-loop) (q : ℕ) → q < 1024 → Has (c .loop .w) q
-has c q h = has-kept (c .loop .inv .gains) (has-kept (c .before .before .before .before .before .clear .ensures) (record { row = h; long = c .before .before .before .before .before .before .before .before .before .before .pre .1 .0 }))
-
-clear-requires : tie.Need-clear-requires Inv-loop μ-loop
+clear-requires : tie.Need-clear-requires
 clear-requires c κs = record { row = omega arith; long = c .before .before .before .before .pre .1 .0 }
 
-cast-key : tie.Need-cast-key Inv-loop μ-loop
-cast-key c = omega arith
+extend-requires : tie.Need-extend-requires
+extend-requires c κs =
+    let clear = c .before .before .before in
+    let pre = clear .before .before .before .before .before .pre in (
+      pre .0,
+      (
+        record {
+          long = omega (arith, clear .clear .ensures .len, pre .1 .0);
+          base-rows = omega arith;
+          row = omega arith;
+          apart = λ a. omega (arith, a .most);
+        },
+        (pre .1 .1 .1 .0, pre .1 .1 .1 .1),
+      ),
+    )
 
-mul-key : tie.Need-mul-key Inv-loop μ-loop
-mul-key c = omega arith
+same-length : tie.Need-same-length
+same-length c = search needs
 
-mul-key-2 : tie.Need-mul-key-2 Inv-loop μ-loop
-mul-key-2 c = omega arith
-
-add-key : tie.Need-add-key Inv-loop μ-loop
-add-key c = omega arith
-
-add-end : tie.Need-add-end Inv-loop μ-loop
-add-end c = omega arith
-
-mul-skip : tie.Need-mul-skip Inv-loop μ-loop
-mul-skip c = omega arith
-
-shared-slice-read-skip : tie.Need-shared-slice-read-skip Inv-loop μ-loop
-shared-slice-read-skip c = omega (arith, c .before .before .before .before .before .before .before .before .pre .0 .starts .long)
-
-skip-requires : tie.Need-skip-requires Inv-loop μ-loop
-skip-requires c κs = under-up (omega arith) (c .before .before .before .before .before .before .before .before .pre .0 .starts .under _ (omega arith))
-
-loop-holds : tie.Need-loop-holds Inv-loop μ-loop
-loop-holds c = run-none (c .before .before .before .before .before .before .before .before .before .pre .0 .edged .rises) (c .skip .ensures)
-
-mul-x : tie.Need-mul-x Inv-loop μ-loop
-mul-x c = omega arith
-
-shared-slice-read-x : tie.Need-shared-slice-read-x Inv-loop μ-loop
-shared-slice-read-x c = omega arith
-
-same-length : tie.Need-same-length Inv-loop μ-loop
-same-length c = c .before .before .before .loop .inv .gains .len ∙ c .before .before .before .before .before .before .before .before .clear .ensures .len
-
-returns : tie.Need-returns Inv-loop μ-loop
-returns c = gather-all (c .before .before .before .before .before .before .before .before .clear .ensures) (run-all (c .before .before .before .loop .inv) (c .before .before .before .before .before .before .before .before .before .before .before .before .before .pre .0 .edged .rises) (λ _. c .if1 .taken))
-
-sub-join : tie.Need-sub-join Inv-loop μ-loop
-sub-join c = run-low (c .before .before .before .before .loop .inv) (c .before .before .before .loop-test .taken)
-
-cast-join : tie.Need-cast-join Inv-loop μ-loop
-cast-join c = omega (arith, sub-join c)
-
-add-join : tie.Need-add-join Inv-loop μ-loop
-add-join c = omega (arith, sub-join c, c .before .if1 .left)
-
-join-requires : tie.Need-join-requires Inv-loop μ-loop
-join-requires c κs =
-    let at = c .before .before .before .before in
-    (has at _ (omega arith), (has at _ (omega arith), has at _ (omega (arith, sub-join c, c .before .if1 .left))))
-
-add-i : tie.Need-add-i Inv-loop μ-loop
-add-i c = omega arith
-
-loop-less : tie.Need-loop-less Inv-loop μ-loop
-loop-less c = omega arith
-
-loop-again : tie.Need-loop-again Inv-loop μ-loop
-loop-again c = gather-more (c .before .before .before .before .before .before .before .loop .inv) (c .before .before .before .before .before .before .loop-test .taken) (c .before .before .before .before .if1 .left) (c .before .before .join .ensures)
-
-same-length-2 : tie.Need-same-length-2 Inv-loop μ-loop
-same-length-2 c = c .before .loop .inv .gains .len ∙ c .before .before .before .before .before .before .clear .ensures .len
-
-returns-2 : tie.Need-returns-2 Inv-loop μ-loop
-returns-2 c = gather-all (c .before .before .before .before .before .before .clear .ensures) (run-all (c .before .loop .inv) (c .before .before .before .before .before .before .before .before .before .before .before .pre .0 .edged .rises) (λ l. absurd (omega arith)))
+returns : tie.Need-returns
+returns c = gather-all (c .before .before .before .before .before .before .clear .ensures) (c .before .before .extend .ensures)
 
 pub gather-spec : {M : Type 1} → statement M
-gather-spec =
-    tie.close
-    (tie.spec
-    Inv-loop
-    μ-loop
-    clear-requires
-    cast-key
-    mul-key
-    mul-key-2
-    add-key
-    add-end
-    mul-skip
-    shared-slice-read-skip
-    skip-requires
-    loop-holds
-    mul-x
-    shared-slice-read-x
-    same-length
-    returns
-    sub-join
-    cast-join
-    add-join
-    join-requires
-    add-i
-    loop-less
-    loop-again
-    same-length-2
-    returns-2)
+gather-spec = tie.close (tie.spec clear-requires extend-requires same-length returns)

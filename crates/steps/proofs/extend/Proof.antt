@@ -1,19 +1,19 @@
--- `steps::lead` meets its contract: row r has gained what the edges of the run before slot i lead to.
-use mathlib.Core.Path.{_≡_}
-use Prim.Native.Nat.{_-_}
+-- `steps::extend` meets its contract: row r has gained the rows of what the edges of the run before slot i lead to.
+use Prim.Native.Nat.{_+_, _-_}
 use native.Mathlib.Omega.{arith}
 use lib.ListN.{length}
 use Rattle.edges.proofs.Slots.{under-up}
+use Rattle.rows.specs.Rows.{On}
 use Rattle.rows.proofs.Rows.{has-kept}
-use Rattle.steps.proofs.Runs.{Running, run-none, run-low, run-more, run-all, lead-all}
-use Rattle.steps.proofs.lead.Statement.{statement}
-use Rattle.steps.proofs.lead.Tie as tie
+use Rattle.steps.proofs.Runs.{Running, run-none, run-low, run-all, extend-more, extend-all}
+use Rattle.steps.proofs.extend.Statement.{statement}
+use Rattle.steps.proofs.extend.Tie as tie
 
 abbrev Inv-loop : tie.InvT-loop
-Inv-loop edges slots v label w₀ r key end i₀ w i = Running edges key r (λ b t. t ≡ b) w₀ w i
+Inv-loop edges slots label w₀ base r s key end i₀ w i = Running edges key r (λ b. On w₀ (base + b)) w₀ w i
 
 abbrev μ-loop : tie.MeasureT-loop
-μ-loop edges slots v label w₀ r key end i₀ w i = length edges - i
+μ-loop edges slots label w₀ base r s key end i₀ w i = length edges - i
 
 cast-key : tie.Need-cast-key Inv-loop μ-loop
 cast-key c = omega arith
@@ -52,7 +52,7 @@ same-length : tie.Need-same-length Inv-loop μ-loop
 same-length c = c .before .before .before .loop .inv .gains .len
 
 returns : tie.Need-returns Inv-loop μ-loop
-returns c = lead-all (run-all (c .before .before .before .loop .inv) (c .before .before .before .before .before .before .before .before .before .pre .0 .edged .rises) (λ _. c .if1 .taken))
+returns c = extend-all (run-all (c .before .before .before .loop .inv) (c .before .before .before .before .before .before .before .before .before .pre .0 .edged .rises) (λ _. c .if1 .taken))
 
 sub-y : tie.Need-sub-y Inv-loop μ-loop
 sub-y c = run-low (c .before .before .before .loop .inv) (c .before .before .loop-test .taken)
@@ -60,11 +60,18 @@ sub-y c = run-low (c .before .before .before .loop .inv) (c .before .before .loo
 cast-y : tie.Need-cast-y Inv-loop μ-loop
 cast-y c = omega (arith, sub-y c)
 
-mark-requires : tie.Need-mark-requires Inv-loop μ-loop
-mark-requires c κs =
+add-join : tie.Need-add-join Inv-loop μ-loop
+add-join c =
     let turn = c .before .before .before .before in
     let pre = turn .before .before .before .before .before .before .pre in
-    (has-kept (turn .loop .inv .gains) (pre .1 .1 .1), omega (arith, sub-y (c .before), c .before .if1 .left, pre .1 .0))
+    omega (arith, sub-y (c .before), c .before .if1 .left, pre .1 .0 .base-rows)
+
+join-requires : tie.Need-join-requires Inv-loop μ-loop
+join-requires c κs =
+    let turn = c .before .before .before .before in
+    let pre = turn .before .before .before .before .before .before .pre in
+    let here = has-kept (turn .loop .inv .gains) (record { row = pre .1 .0 .row; long = pre .1 .0 .long }) in
+    (here, (here, record { row = omega (arith, sub-y (c .before), c .before .if1 .left, pre .1 .0 .base-rows); long = here .long }))
 
 add-i : tie.Need-add-i Inv-loop μ-loop
 add-i c = omega arith
@@ -73,16 +80,16 @@ loop-less : tie.Need-loop-less Inv-loop μ-loop
 loop-less c = omega arith
 
 loop-again : tie.Need-loop-again Inv-loop μ-loop
-loop-again c = run-more (c .before .before .before .before .before .before .before .loop .inv) (c .before .before .before .before .before .before .loop-test .taken) (c .before .before .before .before .if1 .left) (c .before .before .mark .ensures)
+loop-again c = extend-more (c .before .before .before .before .before .before .before .before .before .before .before .before .before .pre .1 .0) (c .before .before .before .before .before .before .before .loop .inv) (c .before .before .before .before .before .before .loop-test .taken) (c .before .before .before .before .if1 .left) (c .before .before .join .ensures)
 
 same-length-2 : tie.Need-same-length-2 Inv-loop μ-loop
 same-length-2 c = c .before .loop .inv .gains .len
 
 returns-2 : tie.Need-returns-2 Inv-loop μ-loop
-returns-2 c = lead-all (run-all (c .before .loop .inv) (c .before .before .before .before .before .before .before .pre .0 .edged .rises) (λ l. absurd (omega arith)))
+returns-2 c = extend-all (run-all (c .before .loop .inv) (c .before .before .before .before .before .before .before .pre .0 .edged .rises) (λ l. absurd (omega arith)))
 
-pub lead-spec : {M : Type 1} → statement M
-lead-spec =
+pub extend-spec : {M : Type 1} → statement M
+extend-spec =
     tie.close
     (tie.spec
     Inv-loop
@@ -102,7 +109,8 @@ lead-spec =
     returns
     sub-y
     cast-y
-    mark-requires
+    add-join
+    join-requires
     add-i
     loop-less
     loop-again
