@@ -1,15 +1,14 @@
 -- The entries with more labels before a word, child by child.
-use mathlib.Core.Path.{_≡_, refl, sym, ap, subst, _∙_}
+use mathlib.Core.Path.{_≡_, refl, subst, _∙_}
 use mathlib.Core.List.{List, _∷_, _++_}
 use mathlib.Core.Logic.{_⊎_, inl, ⊎-elim, ⊎-map}
-use Prim.Native.Nat.{ℕ, suc, _+_, _*_, _/_, _≤_, _<_}
+use Prim.Native.Nat.{ℕ, suc, _+_, _*_, _≤_, _<_}
 use native.Mathlib.Omega.{arith}
 use native.Mathlib.Nat.{le-refl}
-use Rattle.model.specs.Limits.{mostVertices, leastWork}
+use Rattle.model.specs.Limits.{mostVertices}
 use Rattle.model.specs.Suffixes.{Beyond, Leaf, Branch, Some}
 use Rattle.model.proofs.Suffixes.{some-none, some-up, some-more, beyond-parts, beyond-long, beyond-none, branches-apart, parts-apart}
-use Rattle.rows.specs.Rows.{cell, On, Next, Step}
-use Rattle.rows.specs.Room.{childRows}
+use Rattle.rows.specs.Rows.{cell, Next, Step}
 use Rattle.rows.proofs.Rows.{same-row}
 use Rattle.steps.specs.Steps.{Sources}
 use Rattle.steps.proofs.Prepending.{sources-more}
@@ -147,13 +146,11 @@ module _ {edges slots digits w₀ : List ℕ} {d starts longest room cnt : ℕ} 
               quiet = g .quiet;
               stocked = record { count = fits; there = omega (arith, g .held .len, v .held .len, p .stocked .there) };
             }
-
           where
             -- every ending but the longest has the row that it had
             same : (r : ℕ) → 512 ≤ r → r < baseOf d → (j : ℕ) → j < mostVertices → cell w r j ≡ cell w₀ r j
-            same r k l = same-row w₀ w r (λ i m. let low : (r * 4 + i) / 4 < baseOf d = omega arith in let high : 512 ≤ (r * 4 + i) / 4 = omega arith in
-                let small : r * 4 + i < leastWork = omega (arith, p .chosen .more, p .chosen .most) in
-                g .held .lower (r * 4 + i) small high low ∙ v .held .lower (r * 4 + i) small high low)
+            same r k l = same-row w₀ w r (λ i m. held-then (le-refl d) (v .held) (g .held) .lower (r * 4 + i)
+                (omega (arith, p .chosen .more, p .chosen .most)) (omega arith) (omega arith))
 
             sources : Sources edges (suc c ∷ word) w
             sources = sources-more
@@ -161,7 +158,7 @@ module _ {edges slots digits w₀ : List ℕ} {d starts longest room cnt : ℕ} 
                 (omega (arith, g .held .len, v .held .len, p .stocked .there))
                 (p .chosen .labels)
                 (λ r k l. same r (omega arith) (omega (arith, word-length (p .chosen))))
-                (λ a t k trail. subst (λ (x : ℕ). On w x a) (ap (λ (x : ℕ). childRows + 8 * x + c) (sym (word-length (p .chosen)))) (g .children .all c a t h k trail))
+                (λ a t k trail. rw (word-length (p .chosen)) (g .children .all c a t h k trail))
 
         pub going-more : {w′ : List ℕ} {r : ℕ} → Noded edges next w d′ longest room n w′ r → Going edges digits w₁ d longest room n₁ w′ r (c + 1)
         going-more {w′} {r} z =

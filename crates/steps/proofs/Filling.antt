@@ -1,4 +1,4 @@
--- Rows filled one for each vertex, and the endings of a word.
+-- Rows filled, one for each vertex.
 use mathlib.Core.Path.{_≡_, refl, _∙_}
 use mathlib.Core.Logic.{_⊎_, inl, inr, ⊎-elim}
 use mathlib.Core.List.{List}
@@ -27,7 +27,8 @@ module _ {base : ℕ} {P : ℕ → ℕ → Type 0} {w w′ : List ℕ} where
 
   module _ {p : ℕ} (g : Filling base P w w′ p) where
     -- vertices that lead nowhere are passed over
-    pub filling-pass : {q : ℕ} → p ≤ q → ((a t : ℕ) → a < mostVertices → t < mostVertices → p ≤ a → a < q → P a t → ⊥) → Filling base P w w′ q
+    pub filling-pass : {q : ℕ} → p ≤ q → ((a t : ℕ) → a < mostVertices → t < mostVertices → p ≤ a → a < q → P a t → ⊥)
+        → Filling base P w w′ q
     filling-pass {q} low gap = record {
       keeps = g .keeps;
       rows = λ a h. row-as (λ t k. (λ x. (omega (arith, x .0), x .1), λ x. (early a h t k (x .0) (x .1), x .1))) (g .rows a h);
@@ -60,7 +61,8 @@ module _ {base : ℕ} {P : ℕ → ℕ → Type 0} {w w′ : List ℕ} where
 module _ {edges w₀ w : List ℕ} {c from to starts : ℕ} (s : Prependable edges w₀ c from to starts) (e : Wiped w₀ w to mostVertices) where
   -- the rows that are led to are not those that are filled
   other : (b : ℕ) → b < mostVertices → Among to mostVertices (from + b) → ⊥
-  other b h a = s .apart (from + b - to) (omega (arith, a .least, a .most)) .apart (record { least = omega (arith, a .least); most = omega (arith, a .least) })
+  other b h a = s .apart (from + b - to) (omega (arith, a .least, a .most)) .apart
+      (record { least = omega (arith, a .least); most = omega (arith, a .least) })
 
   abbrev Leads : ℕ → ℕ → Type 0
   Leads a t = Via edges w from a c t
@@ -73,7 +75,8 @@ module _ {edges w₀ w : List ℕ} {c from to starts : ℕ} (s : Prependable edg
         kept : {u v : List ℕ} → Keeps u v (Among to mostVertices) → (a : ℕ) → a < mostVertices → cell v starts a ≡ cell u starts a
         kept h = keeps-cell h starts (s .starts-row .apart)
 
-    pub filling-extend : {w″ : List ℕ} → p < mostVertices → Becomes w′ w″ (to + p) (λ t. On w′ (to + p) t ⊎ Via edges w′ from p c t) → Filling to Leads w w″ (p + 1)
+    pub filling-extend : {w″ : List ℕ} → p < mostVertices → Becomes w′ w″ (to + p) (λ t. On w′ (to + p) t ⊎ Via edges w′ from p c t)
+        → Filling to Leads w w″ (p + 1)
     filling-extend h b = filling-more g h (becomes-as b (λ t k. (
       ⊎-elim inl (λ x. inr (via-kept (g .keeps) other k .0 x)),
       ⊎-elim inl (λ x. inr (via-kept (g .keeps) other k .1 x)),

@@ -1,6 +1,6 @@
 -- A word's rows, label by label from its end.
-use mathlib.Core.Path.{_≡_, refl, sym, subst, _∙_}
-use mathlib.Core.List.{List, [], _∷_}
+use mathlib.Core.Path.{_≡_, sym, subst, _∙_}
+use mathlib.Core.List.{List, _∷_}
 use Prim.Native.Nat.{ℕ, zero, suc, _+_, _-_, _*_, _%_, _≤_, _<_}
 use native.Mathlib.Omega.{arith}
 use lib.ListN.{length, getD, drop}
@@ -8,10 +8,10 @@ use lib.Seq.{drop-length, drop-cons}
 use Rattle.model.specs.Lists.{_∈_}
 use Rattle.model.specs.Limits.{mostVertices, mostLabel, leastWork}
 use Rattle.model.proofs.Lists.{getD-in}
-use Rattle.rows.specs.Rows.{cell, On, Step}
+use Rattle.rows.specs.Rows.{cell, On}
 use Rattle.rows.specs.Room.{parentRows, childRows}
 use Rattle.steps.specs.Steps.{Trail, Keeps, Among, Word, sourceRow, Sources, Parented, Via}
-use Rattle.steps.specs.Stages.{Row, Wiped, Filled, Apart, Prependable}
+use Rattle.steps.specs.Stages.{Row, Wiped, Filled, Prependable}
 use Rattle.steps.proofs.Trails.{trail-none, trail-edge}
 use Rattle.steps.proofs.Kept.{keeps-none, keeps-as, keeps-then, keeps-long, keeps-cell, keeps-row, row-as}
 
@@ -57,8 +57,18 @@ module _ {edges l w w′ : List ℕ} where
         → Prependable edges w′ label from to starts
     prependable {label} {to} {starts} c h r = record {
       label = omega (arith, label-range);
-      apart = λ a k. record { long = long; base-rows = omega (arith, g .half); row = omega (arith, g .half); apart = λ x. omega (arith, x .least, x .most, g .half) };
-      starts-row = record { long = long; base-rows = omega (arith, g .half); row = omega (arith, label-range, word .short); apart = λ x. omega (arith, x .most, g .half) };
+      apart = λ a k. record {
+        long = long;
+        base-rows = omega (arith, g .half);
+        row = omega (arith, g .half);
+        apart = λ x. omega (arith, x .least, x .most, g .half);
+      };
+      starts-row = record {
+        long = long;
+        base-rows = omega (arith, g .half);
+        row = omega (arith, label-range, word .short);
+        apart = λ x. omega (arith, x .most, g .half);
+      };
       sources = λ a t k m x. rw row (on a k t (led a t m (rw c at x)));
     }
       where
@@ -66,7 +76,8 @@ module _ {edges l w w′ : List ℕ} where
         row = omega (arith, label-range)
 
         on : (a : ℕ) → a < mostVertices → (t : ℕ) → Trail edges a (drop i l) t → On w′ (sourceRow l i) a
-        on a k t p = keeps-cell (g .keeps) (sourceRow l i) (λ x. omega arith) a k ∙ (keeps-cell e (sourceRow l i) (λ x. omega (arith, x .most)) a k ∙ s .all i a t inside k p)
+        on a k t p = keeps-cell (g .keeps) (sourceRow l i) (λ x. omega arith) a k
+            ∙ (keeps-cell e (sourceRow l i) (λ x. omega (arith, x .most)) a k ∙ s .all i a t inside k p)
 
     pub prepending-more : {w″ : List ℕ} {label to : ℕ} → label ≡ getD l i 0 → to ≡ 256 - from → Filled to (λ a t. Via edges w′ from a label t) w′ w″
         → Prepending edges l w w″ to i
@@ -87,7 +98,9 @@ module _ {edges l w w′ : List ℕ} where
   pub prepending-all : {w₀ w″ : List ℕ} {from i : ℕ} → Keeps w₀ w (Among (256 - length l % 2 * 256) mostVertices) → Prepending edges l w w′ from i → i ≤ 0
       → Wiped w′ w″ 0 mostVertices → Parented edges l w₀ w″
   prepending-all {w₀} {w″} {from} {i} e g none z = record {
-    keeps = keeps-then (keeps-as (λ r x. omega (arith, x .most)) e) (keeps-then (g .keeps) (keeps-as (λ r x. omega (arith, x .most)) (z .keeps)));
+    keeps = keeps-then
+        (keeps-as (λ r x. omega (arith, x .most)) e)
+        (keeps-then (g .keeps) (keeps-as (λ r x. omega (arith, x .most)) (z .keeps)));
     quiet = λ a b s. z .none a b (record { least = omega arith; most = omega (arith, s .from) }) (s .to) (s .on);
     only = λ a b h k. rows a h .only b k;
     all = λ a b h k. rows a h .all b k;

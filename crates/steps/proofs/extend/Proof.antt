@@ -52,7 +52,9 @@ same-length : tie.Need-same-length Inv-loop μ-loop
 same-length c = c .before .before .before .loop .inv .gains .len
 
 returns : tie.Need-returns Inv-loop μ-loop
-returns c = extend-all (run-all (c .before .before .before .loop .inv) (c .before .before .before .before .before .before .before .before .before .pre .0 .edged .rises) (λ _. c .if1 .taken))
+returns c =
+    let loop = c .before .before .before in
+    extend-all (run-all (loop .loop .inv) (loop .before .before .before .before .before .before .pre .0 .edged .rises) (λ _. c .if1 .taken))
 
 sub-y : tie.Need-sub-y Inv-loop μ-loop
 sub-y c = run-low (c .before .before .before .loop .inv) (c .before .before .loop-test .taken)
@@ -80,13 +82,18 @@ loop-less : tie.Need-loop-less Inv-loop μ-loop
 loop-less c = omega arith
 
 loop-again : tie.Need-loop-again Inv-loop μ-loop
-loop-again c = extend-more (c .before .before .before .before .before .before .before .before .before .before .before .before .before .pre .1 .0) (c .before .before .before .before .before .before .before .loop .inv) (c .before .before .before .before .before .before .loop-test .taken) (c .before .before .before .before .if1 .left) (c .before .before .join .ensures)
+loop-again c =
+    let turn = c .before .before .before .before .before .before in
+    let loop = turn .before in
+    extend-more (loop .before .before .before .before .before .before .pre .1 .0) (loop .loop .inv) (turn .loop-test .taken) (c .before .before .before .before .if1 .left) (c .before .before .join .ensures)
 
 same-length-2 : tie.Need-same-length-2 Inv-loop μ-loop
 same-length-2 c = c .before .loop .inv .gains .len
 
 returns-2 : tie.Need-returns-2 Inv-loop μ-loop
-returns-2 c = extend-all (run-all (c .before .loop .inv) (c .before .before .before .before .before .before .before .pre .0 .edged .rises) (λ l. absurd (omega arith)))
+returns-2 c =
+    let loop = c .before in
+    extend-all (run-all (loop .loop .inv) (loop .before .before .before .before .before .before .pre .0 .edged .rises) (λ l. absurd (omega arith)))
 
 pub extend-spec : {M : Type 1} → statement M
 extend-spec =

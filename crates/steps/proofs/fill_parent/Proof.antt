@@ -1,6 +1,6 @@
 -- `steps::fill_parent` meets its contract: the rows from `from` on are those of the labels from number i on.
 use mathlib.Core.Path.{refl, _∙_}
-use Prim.Native.Nat.{_-_, _≤_}
+use Prim.Native.Nat.{ℕ, _-_, _≤_}
 use native.Mathlib.Omega.{arith}
 use lib.ListN.{getD}
 use Rattle.model.specs.Limits.{mostLabel}
@@ -34,7 +34,10 @@ shared-slice-read-label : tie.Need-shared-slice-read-label Inv-loop μ-loop
 shared-slice-read-label c = omega (arith, c .before .loop-test .taken, c .before .before .loop .inv .most)
 
 -- the label at hand is one
-range : (c : tie.In-loop Inv-loop μ-loop) → (1 ≤ getD (c .before .before .before .before .before .before .before .before .before .before .args .word .now) (c .before .loop .i - 1) 0) × (getD (c .before .before .before .before .before .before .before .before .before .before .args .word .now) (c .before .loop .i - 1) 0 ≤ mostLabel)
+abbrev label-at : tie.In-loop Inv-loop μ-loop → ℕ
+label-at c = getD (c .before .before .before .before .before .before .before .before .before .before .args .word .now) (c .before .loop .i - 1) 0
+
+range : (c : tie.In-loop Inv-loop μ-loop) → (1 ≤ label-at c) × (label-at c ≤ mostLabel)
 range c =
     let pre = c .before .before .before .before .before .before .before .before .before .before .pre .1 in
     label-range (pre .0) (pre .1) (c .before .before .before .before .fill-root .ensures .keeps) (c .before .loop .inv) (c .loop-test .taken) refl

@@ -27,7 +27,9 @@ mark-requires : tie.Need-mark-requires Inv-loop μ-loop
 mark-requires c κs =
     let loop = c .before .before in
     let wipe = loop .before .before .before in
-    (record { row = omega (arith, wipe .before .before .before .pre .0); long = keeps-long (loop .loop .inv .keeps) (keeps-long (wipe .clear-rows .ensures .keeps) (wipe .before .before .before .pre .1)) }, omega arith)
+    let pre = wipe .before .before .before .pre in
+    let long = keeps-long (loop .loop .inv .keeps) (keeps-long (wipe .clear-rows .ensures .keeps) (pre .1)) in
+    (record { row = omega (arith, pre .0); long = long }, omega arith)
 
 add-a : tie.Need-add-a Inv-loop μ-loop
 add-a c = omega arith
@@ -36,7 +38,9 @@ loop-less : tie.Need-loop-less Inv-loop μ-loop
 loop-less c = omega arith
 
 loop-again : tie.Need-loop-again Inv-loop μ-loop
-loop-again c = filling-more (c .before .before .before .before .before .loop .inv) (c .before .before .before .before .loop-test .taken) (c .before .before .mark .ensures)
+loop-again c =
+    let turn = c .before .before .before .before in
+    filling-more (turn .before .loop .inv) (turn .loop-test .taken) (c .before .before .mark .ensures)
 
 same-length : tie.Need-same-length Inv-loop μ-loop
 same-length c = c .before .loop .inv .keeps .len ∙ c .before .before .before .before .clear-rows .ensures .keeps .len

@@ -17,45 +17,64 @@ abbrev μ-loop : tie.MeasureT-loop
 μ-loop edges slots label w₀ from to starts s₀ w s = mostVertices - s
 
 long : (c : tie.At-loop Inv-loop μ-loop) → leastWork ≤ length (c .loop .w)
-long c = keeps-long (c .loop .inv .keeps) (keeps-long (c .before .before .before .before .before .clear-rows .ensures .keeps) (c .before .before .before .before .before .before .before .before .before .before .pre .1 .starts-row .long))
+long c =
+    let wipe = c .before .before .before .before .before in
+    keeps-long (c .loop .inv .keeps) (keeps-long (wipe .clear-rows .ensures .keeps) (wipe .before .before .before .before .before .pre .1 .starts-row .long))
 
 clear-rows-requires : tie.Need-clear-rows-requires Inv-loop μ-loop
-clear-rows-requires c κs = let pre = c .before .before .before .before .pre .1 in (pre .starts-row .base-rows, pre .starts-row .long)
+clear-rows-requires c κs =
+    let pre = c .before .before .before .before .pre .1 in
+    (pre .starts-row .base-rows, pre .starts-row .long)
 
 next-requires : tie.Need-next-requires Inv-loop μ-loop
 next-requires c κs =
-    let sourced = c .before .before .before .before .before .before .before .before .pre .1 in
-    (record { row = omega (arith, sourced .starts-row .row); long = keeps-long (c .before .before .before .clear-rows .ensures .keeps) (sourced .starts-row .long) }, omega arith)
+    let wipe = c .before .before .before in
+    let pre = wipe .before .before .before .before .before .pre .1 in
+    (record { row = pre .starts-row .row; long = keeps-long (wipe .clear-rows .ensures .keeps) (pre .starts-row .long) }, omega arith)
 
 loop-holds : tie.Need-loop-holds Inv-loop μ-loop
 loop-holds c =
-    let wiped = c .before .before .before .before .clear-rows .ensures in
-    filling-next (c .before .before .before .before .before .before .before .before .before .pre .1) wiped (filling-none wiped) (c .next .ensures)
+    let wipe = c .before .before .before .before in
+    filling-next (wipe .before .before .before .before .before .pre .1) (wipe .clear-rows .ensures) (filling-none (wipe .clear-rows .ensures)) (c .next .ensures)
 
 add-extend : tie.Need-add-extend Inv-loop μ-loop
 add-extend c = omega (arith, c .before .before .before .before .before .before .before .before .before .before .before .before .pre .1 .starts-row .base-rows)
 
 extend-requires : tie.Need-extend-requires Inv-loop μ-loop
 extend-requires c κs =
-    let pre = c .before .before .before .before .before .before .before .before .before .before .before .before .pre in
-    let apart = pre .1 .apart (c .before .before .loop .s) (omega (arith, c .before .loop-test .taken)) in
-    (pre .0, (record { long = long (c .before .before); base-rows = apart .base-rows; row = apart .row; apart = apart .apart }, (pre .1 .label, omega arith)))
+    let loop = c .before .before in
+    let pre = loop .before .before .before .before .before .before .before .before .before .before .pre in
+    let apart = pre .1 .apart (loop .loop .s) (omega (arith, c .before .loop-test .taken)) in (
+      pre .0,
+      (
+        record { long = long loop; base-rows = apart .base-rows; row = apart .row; apart = apart .apart },
+        (pre .1 .label, omega arith),
+      ),
+    )
 
 add-next : tie.Need-add-next Inv-loop μ-loop
 add-next c = omega arith
 
 next-requires-2 : tie.Need-next-requires-2 Inv-loop μ-loop
-next-requires-2 c κs = (record { row = omega (arith, c .before .before .before .before .before .before .before .before .before .before .before .before .before .before .before .before .pre .1 .starts-row .row); long = omega (arith, c .before .before .before .extend .ensures .len, long (c .before .before .before .before .before .before)) }, omega arith)
+next-requires-2 c κs =
+    let loop = c .before .before .before .before .before .before in
+    (record { row = loop .before .before .before .before .before .before .before .before .before .before .pre .1 .starts-row .row; long = omega (arith, c .before .before .before .extend .ensures .len, long loop) }, omega arith)
 
 loop-less : tie.Need-loop-less Inv-loop μ-loop
 loop-less c = omega (arith, c .next2 .ensures .low)
 
 loop-again : tie.Need-loop-again Inv-loop μ-loop
 loop-again c =
-    let loop = c .before .before .before .before .before .before .before in
-    let pre = loop .before .before .before .before .before .before .before .before .before .before .pre .1 in
-    let wiped = loop .before .before .before .before .before .clear-rows .ensures in
-    filling-next pre wiped (filling-extend pre wiped (loop .loop .inv) (omega (arith, c .before .before .before .before .before .before .loop-test .taken)) (c .before .before .before .before .extend .ensures)) (c .next2 .ensures)
+    let turn = c .before .before .before .before .before .before in
+    let loop = turn .before in
+    let wipe = loop .before .before .before .before .before in
+    let pre = wipe .before .before .before .before .before .pre .1 in
+    let wiped = wipe .clear-rows .ensures in
+    filling-next
+    pre
+    wiped
+    (filling-extend pre wiped (loop .loop .inv) (turn .loop-test .taken) (c .before .before .before .before .extend .ensures))
+    (c .next2 .ensures)
 
 same-length : tie.Need-same-length Inv-loop μ-loop
 same-length c = c .before .loop .inv .keeps .len ∙ c .before .before .before .before .before .before .clear-rows .ensures .keeps .len
