@@ -2,7 +2,8 @@
 -- memory is saved while a change is tried.
 use Prim.Native.Nat.{ℕ}
 
--- row a: the vertices that vertex a steps to, for the pattern at hand (rows 0 to 255)
+-- row a: the vertices that vertex a steps to, for the pattern at hand (rows 0 to 255); before that, every other ending of the word on the way
+-- to the parent's rows
 abbrev pub stepRows : ℕ
 stepRows = 0
 
