@@ -1,4 +1,4 @@
--- The checks of the record and of leg memory, with which calls on edges begin.
+-- The checks of the header (record) and of edge (leg) memory, with which calls on edges begin.
 use mathlib.Core.Path.{_≡_}
 use mathlib.Core.List.{List, [], _∷_}
 use Prim.Native.Nat.{ℕ}

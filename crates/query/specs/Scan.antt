@@ -45,6 +45,7 @@ stopped vertices longest index (Fresh at) =
     cond (entry? vertices longest (getD index at 0)) (scanFrom vertices longest (getD index at 0) (at + 1) (drop (at + 1) index)) Invalid
 stopped vertices longest index Stray = Invalid
 
+-- the slot where it stops is one of the memory, and a fresh entry is none of those before `from`
 abbrev pub Slot : List ℕ → ℕ → Stop → Type 0
 Slot index from (Rest at) = at ≤ length index
 Slot index from (Fresh at) = (from ≤ at) × (at < length index)

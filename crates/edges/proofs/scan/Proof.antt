@@ -74,10 +74,10 @@ module _ (at : tie.After-shared-slice-known2 Inv-loop μ-loop) where
       sym (checked-next Edges Invalid (edge? vertices) prev edges i (at .before .loop-test .taken) l b e) ∙ at .before .before .loop .inv .1
 
 returns-2 : tie.Need-returns-2 Inv-loop μ-loop
-returns-2 c = rest (c .before .before .before .before) true (c .before .before .before .if2 .taken) (sym (c .before .all-zero .ensures) ∙ c .if3 .taken)
+returns-2 c = rest (c .before .before .before .before) true (omega (arith, c .before .before .before .if2 .taken)) (sym (c .before .all-zero .ensures) ∙ c .if3 .taken)
 
 returns-3 : tie.Need-returns-3 Inv-loop μ-loop
-returns-3 c = rest (c .before .before .before .before) false (c .before .before .before .if2 .taken) (sym (c .before .all-zero .ensures) ∙ c .if3 .left)
+returns-3 c = rest (c .before .before .before .before) false (omega (arith, c .before .before .before .if2 .taken)) (sym (c .before .all-zero .ensures) ∙ c .if3 .left)
 
 is-edge-requires : tie.Need-is-edge-requires Inv-loop μ-loop
 is-edge-requires c κs = search needs

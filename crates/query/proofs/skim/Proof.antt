@@ -22,7 +22,7 @@ shared-slice-read-x : tie.Need-shared-slice-read-x Inv-loop μ-loop
 shared-slice-read-x c = search needs
 
 returns : tie.Need-returns Inv-loop μ-loop
-returns c = skim-rest (c .before .before .before .loop .inv) (c .if1 .taken)
+returns c = skim-rest (c .before .before .before .loop .inv) (omega (arith, c .if1 .taken))
 
 returns-2 : tie.Need-returns-2 Inv-loop μ-loop
 returns-2 c =

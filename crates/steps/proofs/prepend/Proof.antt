@@ -73,7 +73,7 @@ loop-again c =
     filling-next
     pre
     wiped
-    (filling-extend pre wiped (loop .loop .inv) (turn .loop-test .taken) (c .before .before .before .before .extend .ensures))
+    (filling-extend pre wiped (loop .loop .inv) (omega (arith, turn .loop-test .taken)) (c .before .before .before .before .extend .ensures))
     (c .next2 .ensures)
 
 same-length : tie.Need-same-length Inv-loop μ-loop
