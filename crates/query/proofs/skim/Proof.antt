@@ -1,5 +1,6 @@
 -- `query::skim` meets its contract.
 use Prim.Native.Nat.{_-_}
+use native.Mathlib.Omega.{arith}
 use borrow.Author.Needs.{needs}
 use lib.ListN.{length}
 use Rattle.query.proofs.Skimming.{Skimmed, skim-start, skim-rest, skim-end, skim-fresh, skim-stray, skim-more}
