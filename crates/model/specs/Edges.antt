@@ -5,7 +5,7 @@ use Prim.Native.Nat.{ℕ, _+_, _*_, _/_, _%_, _≤_}
 use lib.Dec.{eqb, ltb, leb}
 use lib.ListN.{length}
 use Rattle.model.specs.Lists.{within?}
-use Rattle.model.specs.Limits.{mostVertices, mostEdges, mostLabel, mostLongest}
+use Rattle.model.specs.Limits.{mostVertices, mostEdges, mostLabel, mostLongest, fromUnit, labelUnit}
 
 -- A layout: its places (vertices, numbered from 0), its longest pattern k, and its standing legs (edges), as the numbers below.
 pub record Graph : Type 0 where
@@ -24,16 +24,16 @@ pub record Small (g : Graph) : Type 0 where
 
 -- "one slot a leg: from × 4,096 + colour × 256 + to"
 abbrev pub edgeNumber : ℕ → ℕ → ℕ → ℕ
-edgeNumber from label to = from * 4096 + label * 256 + to
+edgeNumber from label to = from * fromUnit + label * labelUnit + to
 
 abbrev pub fromOf : ℕ → ℕ
-fromOf x = x / 4096
+fromOf x = x / fromUnit
 
 abbrev pub labelOf : ℕ → ℕ
-labelOf x = x / 256 % 16
+labelOf x = x / labelUnit % (fromUnit / labelUnit)
 
 abbrev pub toOf : ℕ → ℕ
-toOf x = x % 256
+toOf x = x % labelUnit
 
 -- "a colour 1 to 8"
 abbrev pub label? : ℕ → Bool

@@ -14,6 +14,17 @@ mostLabel = 8
 abbrev pub mostLongest : ℕ
 mostLongest = 4
 
+-- "from × 4,096 + colour × 256 + to"
+abbrev pub fromUnit : ℕ
+fromUnit = 4096
+
+abbrev pub labelUnit : ℕ
+labelUnit = 256
+
+-- "Code reads the colours as hexadecimal digits"
+abbrev pub digitUnit : ℕ
+digitUnit = 16
+
 -- work memory has at least 4,096 numbers
 abbrev pub leastWork : ℕ
 leastWork = 4096
@@ -27,3 +38,10 @@ ownerUnit = 2 ^ 24
 
 abbrev pub sideUnit : ℕ
 sideUnit = 2 ^ 32
+
+-- a card's bytes before its edges, and those of an edge behind them
+abbrev pub headBytes : ℕ
+headBytes = 9
+
+abbrev pub tripleBytes : ℕ
+tripleBytes = 3

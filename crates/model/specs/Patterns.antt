@@ -5,7 +5,7 @@ use mathlib.Core.List.{List, [], _∷_, _++_, map}
 use Prim.Native.Nat.{ℕ, zero, suc, _+_, _*_, _/_, _≤_}
 use lib.ListN.{length, take}
 use Rattle.model.specs.Lists.{_∈_, keep, from, spread, same?, all?, within?}
-use Rattle.model.specs.Limits.{mostLabel, mostLongest}
+use Rattle.model.specs.Limits.{mostLabel, mostLongest, digitUnit}
 use Rattle.model.specs.Edges.{label?}
 
 -- l written j times
@@ -50,7 +50,7 @@ own? l = same? (minRepeat l) l
 -- "Code reads the colours as hexadecimal digits, first colour leftmost": the digits of l behind those of a
 unfoldable pub codeFrom : ℕ → List ℕ → ℕ
 codeFrom a [] = a
-codeFrom a (c ∷ l) = codeFrom (a * 16 + c) l
+codeFrom a (c ∷ l) = codeFrom (a * digitUnit + c) l
 
 abbrev pub code : List ℕ → ℕ
 code l = codeFrom 0 l

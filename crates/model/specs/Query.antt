@@ -4,7 +4,7 @@ use mathlib.Core.List.{List, [], _∷_, _++_}
 use Prim.Native.Nat.{ℕ, zero, suc, _/_, _%_, _<_}
 use lib.Dec.{eqb, ltb}
 use Rattle.model.specs.Lists.{_∈_, any?, mem?, upTo}
-use Rattle.model.specs.Limits.{mostLongest, hubUnit, ownerUnit, sideUnit}
+use Rattle.model.specs.Limits.{mostVertices, mostLongest, digitUnit, hubUnit, ownerUnit, sideUnit}
 use Rattle.model.specs.Edges.{rising?}
 use Rattle.model.specs.Patterns.{keyed?, own?}
 use Rattle.model.specs.Entries.{outEntry, inEntry}
@@ -14,10 +14,10 @@ abbrev pub sideOf : ℕ → ℕ
 sideOf x = x / sideUnit
 
 abbrev pub ownerOf : ℕ → ℕ
-ownerOf x = x / ownerUnit % 256
+ownerOf x = x / ownerUnit % mostVertices
 
 abbrev pub hubOf : ℕ → ℕ
-hubOf x = x / hubUnit % 256
+hubOf x = x / hubUnit % mostVertices
 
 abbrev pub codeOf : ℕ → ℕ
 codeOf x = x % hubUnit
@@ -25,7 +25,7 @@ codeOf x = x % hubUnit
 -- the hexadecimal digits of a code, at most n of them, the first leftmost
 unfoldable pub digits : ℕ → ℕ → List ℕ
 digits zero code = []
-digits (suc n) code = let more = digits n (code / 16) ++ (code % 16 ∷ []) in cond (eqb code 0) [] more
+digits (suc n) code = let more = digits n (code / digitUnit) ++ (code % digitUnit ∷ []) in cond (eqb code 0) [] more
 
 -- "code not a pattern of at most k that is its own minimum repeat": what is let pass
 unfoldable pub code? : ℕ → ℕ → Bool

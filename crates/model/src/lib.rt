@@ -1,4 +1,39 @@
-// The model: what document 01 says, as definitions (specs/) and laws (proofs/). The code is the enums that replies are made of, and no function.
+// The model: what document 01 says, as definitions (specs/) and laws (proofs/). The code is the numbers that document 01 fixes and the enums
+// that replies are made of, and no function.
+
+// The numbers, each named once; specs/Limits.antt has them under the same names. A crate that wants one in another width takes it from here.
+
+// Places are 1 to 256, legs at most 1,024, colours 1 to 8, the longest pattern k 1 to 4.
+pub const MOST_VERTICES: usize = 256;
+
+pub const MOST_EDGES: usize = 1024;
+
+pub const MOST_LABEL: usize = 8;
+
+pub const MOST_LONGEST: usize = 4;
+
+// "from × 4,096 + colour × 256 + to"
+pub const FROM_UNIT: u32 = 4096;
+
+pub const LABEL_UNIT: u32 = 256;
+
+// "Code reads the colours as hexadecimal digits"
+pub const DIGIT_UNIT: u64 = 16;
+
+// "side × 2^32 + owner × 2^24 + hub × 2^16 + code"
+pub const SIDE_UNIT: u64 = 1 << 32;
+
+pub const OWNER_UNIT: u64 = 1 << 24;
+
+pub const HUB_UNIT: u64 = 1 << 16;
+
+// Work memory has at least 4,096 numbers.
+pub const LEAST_WORK: usize = 4096;
+
+// A card's bytes before its edges (mark, version, places less one, k, leg count), and those of an edge behind them (from, colour, to).
+pub const HEAD_BYTES: usize = 9;
+
+pub const TRIPLE_BYTES: usize = 3;
 
 // Why a call is turned down: a case for each number of document 01's table (specs/Replies.antt has the numbers).
 pub enum Refusal {
