@@ -9,7 +9,7 @@ use lib.Dec.{T}
 use lib.ListN.{length}
 use Rattle.model.specs.Lists.{filled, zeroed}
 use Rattle.model.specs.Limits.{mostLabel, leastWork}
-use Rattle.model.specs.Edges.{edgeMemory?}
+use Rattle.model.specs.Edges.{edgeMemory?, Bounds}
 use Rattle.model.specs.Replies.{numberOf, answerOf}
 use Rattle.model.specs.Entries.{determined}
 use Rattle.model.specs.declared.Refusal.{Refusal}
@@ -20,7 +20,7 @@ use Rattle.model.proofs.Tests.{test-and, test-le, test-true, test-false, test-y
 use Rattle.model.proofs.Replies.{number-some}
 use Rattle.calls.specs.Checks.{Check, firstRefusal}
 use Rattle.calls.specs.Change.{Header, graphOf, Memory, Handed, back, Change, changedWith, Leaves, fits?, settle, openRefusal, openCall, changeChecks, changeRefusal, insertRefusal, insertCall, removeRefusal, removeCall}
-use Rattle.calls.proofs.Checks.{numbered?, Passed, done, also, passes, Header as Bounds, test-vertices, test-longest, test-ends}
+use Rattle.calls.proofs.Checks.{numbered?, Passed, done, also, passes, test-vertices, test-longest, test-ends}
 
 -- ---- checks, and then further ones
 

@@ -1,18 +1,18 @@
 -- What the level search's call comes to, from its refusal.
-use mathlib.Core.Path.{_≡_, refl, ap, _∙_}
+use mathlib.Core.Path.{_≡_, refl}
 use mathlib.Core.List.{List}
 use Prim.Native.Nat.{ℕ, zero, suc, _≤_}
 use native.Mathlib.Omega.{arith}
 use Rattle.model.specs.Lists.{zeroed}
 use Rattle.model.specs.Edges.{standing}
 use Rattle.model.specs.Patterns.{minRepeat}
-use Rattle.model.specs.Levels.{Refused, levelReply}
+use Rattle.model.specs.Levels.{levelReply}
 use Rattle.model.specs.Replies.{replyOf, numberOf}
 use Rattle.model.specs.declared.Refusal.{Refusal}
 use Rattle.model.specs.declared.SearchReply.{SearchReply}
 use Rattle.model.specs.declared.SearchReply.the-variants.{Refused as SearchRefused}
 use Rattle.model.proofs.Replies.{number-some}
-use Rattle.calls.specs.Search.{searchRefusal, searchCall, searchedWith, SearchMeets}
+use Rattle.calls.specs.Search.{searchRefusal, searchCall, SearchMeets}
 
 module _ (vertices longest start destination : ℕ) (pattern : List ℕ) (limit : ℕ) (edges work : List ℕ) where
   pub search-refused : (r : Refusal) → searchRefusal vertices longest start destination pattern edges work ≡ numberOf r

@@ -1,19 +1,14 @@
 -- The layout card (document 01): its bytes, and reading and writing it as calls on lent memory.
-use mathlib.Core.Path.{_≡_}
 use mathlib.Core.Bool.{Bool, true, false, _&&_}
 use mathlib.Core.List.{List, [], _∷_, _++_}
-use Prim.Native.Nat.{ℕ, zero, suc, _+_, _-_, _*_, _/_, _%_, _<_}
+use Prim.Native.Nat.{ℕ, zero, suc, _+_, _-_, _*_, _/_, _%_}
 use lib.Dec.{eqb, ltb, leb}
 use lib.ListN.{length, getD, take, drop}
-use Rattle.model.specs.Lists.{_∈_, same?, spread}
-use Rattle.model.specs.Limits.{mostEdges}
+use Rattle.model.specs.Lists.{same?, spread}
+use Rattle.model.specs.Limits.{mostEdges, headBytes, tripleBytes}
 use Rattle.model.specs.Edges.{edgeNumber, fromOf, labelOf, toOf, label?, edgeMemory?, standing}
 use Rattle.calls.specs.Checks.{vertices?, longest?, ends?, Check, firstRefusal}
-use Rattle.calls.specs.Change.{Header, Memory, back, none, Change, changedWith, buildRoom?, settle}
-
--- a byte is below 256
-abbrev pub Bytes : List ℕ → Type 0
-Bytes l = (x : ℕ) → x ∈ l → x < 256
+use Rattle.calls.specs.Change.{Header, Memory, none, Change, changedWith, buildRoom?, settle}
 
 -- "the mark PRC"
 abbrev pub mark : List ℕ
@@ -25,10 +20,6 @@ wordBytes n = n / 256 ∷ n % 256 ∷ []
 
 abbrev pub wordAt : List ℕ → ℕ → ℕ
 wordAt bytes i = getD bytes i 0 * 256 + getD bytes (suc i) 0
-
--- mark, version, vertices (places) less one, k and the count of edges (legs) are 9 bytes; each edge is 3
-abbrev pub headBytes : ℕ
-headBytes = 9
 
 -- "then from, colour, to for each leg in rising order"
 abbrev pub edgeBytes : ℕ → List ℕ
@@ -78,7 +69,7 @@ risingTriples? vertices prev (from ∷ label ∷ to ∷ more) =
 
 -- "16 length not 9 + 3 × legs, or legs not rising legs of this layout"
 unfoldable pub cardEdges? : List ℕ → Bool
-cardEdges? card = eqb (length card) (headBytes + 3 * countOf card) && risingTriples? (headerOf card .vertices) 0 (drop headBytes card)
+cardEdges? card = eqb (length card) (headBytes + tripleBytes * countOf card) && risingTriples? (headerOf card .vertices) 0 (drop headBytes card)
 
 -- ---- reading
 
@@ -110,7 +101,7 @@ writeRefusal h edges output =
     (1, vertices? (h .vertices))
     ∷ (2, longest? (h .longest))
     ∷ (3, edgeMemory? (h .vertices) edges)
-    ∷ (17, leb (headBytes + 3 * length (standing edges)) (length output))
+    ∷ (17, leb (headBytes + tripleBytes * length (standing edges)) (length output))
     ∷ []
     )
 

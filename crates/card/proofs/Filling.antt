@@ -6,9 +6,10 @@ use native.Mathlib.Nat.{le-of-eq}
 use native.Mathlib.Omega.{arith}
 use lib.ListN.{length, getD, take, drop, set, replicate, length-drop, drop-of-length-le, List·getD-append}
 use lib.Seq.{take-at, drop-at, getD-drop}
+use Rattle.model.specs.Limits.{headBytes}
 use Rattle.model.specs.Lists.{filled, zeroed}
 use Rattle.model.proofs.Lists.{part-all}
-use Rattle.calls.specs.Card.{headBytes, edgeAt, edgesOf}
+use Rattle.calls.specs.Card.{edgeAt, edgesOf}
 use Rattle.calls.proofs.Card.{length-edges, getD-edges}
 use Rattle.edges.proofs.Mix.{Mixed, front-turn}
 use Rattle.card.specs.Card.{Fillable}

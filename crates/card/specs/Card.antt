@@ -5,11 +5,11 @@ use mathlib.Core.List.{List, [], _∷_, _++_}
 use Prim.Native.Nat.{ℕ, _+_, _-_, _*_, _≤_, _<_}
 use lib.ListN.{length}
 use Rattle.model.specs.Lists.{_∈_}
-use Rattle.model.specs.Limits.{mostVertices, mostEdges, mostLongest}
+use Rattle.model.specs.Limits.{mostVertices, mostEdges, mostLongest, headBytes}
 use Rattle.model.specs.Edges.{fromOf, edge?}
 use Rattle.model.specs.Replies.{numberOf}
 use Rattle.calls.specs.Change.{Header}
-use Rattle.calls.specs.Card.{mark, wordBytes, headBytes, headerOf, countOf, cardRefusal}
+use Rattle.calls.specs.Card.{mark, wordBytes, headerOf, countOf, cardRefusal}
 use Rattle.card.specs.declared.Checked.{Checked}
 use Rattle.card.specs.declared.Checked.the-variants.{Layout, Refused}
 

@@ -5,8 +5,9 @@ ghost use mathlib.Core.List.{_++_};
 ghost use mathlib.Core.Bool.{Bool};
 ghost use Prim.Native.Nat.{_+_, _*_, _%_, _≤_, _<_};
 ghost use lib.ListN.{length, drop};
+ghost use Rattle.model.specs.Limits.{headBytes};
 ghost use Rattle.model.specs.Lists.{filled, spread};
-ghost use Rattle.calls.specs.Card.{headBytes, marked?, wordAt, edgeBytes, edgeAt, edgeAt?, edgesOf, risingTriples?, cardEdges?, cardOf};
+ghost use Rattle.calls.specs.Card.{marked?, wordAt, edgeBytes, edgeAt, edgeAt?, edgesOf, risingTriples?, cardEdges?, cardOf};
 ghost use Rattle.card.specs.Card.{Checks, Fillable, Head, headOf, Body, Writable};
 
 // Mark, version, vertices less one, k and edge count; each edge is 3 bytes behind them.

@@ -6,7 +6,7 @@ use Prim.Native.Nat.{ℕ, _+_, _≤_, _<_}
 use native.Mathlib.Omega.{arith}
 use lib.Dec.{leb}
 use lib.ListN.{length, getD, drop}
-use Rattle.model.specs.Limits.{mostEdges, leastWork}
+use Rattle.model.specs.Limits.{mostEdges, leastWork, headBytes}
 use Rattle.model.specs.Replies.{numberOf, answerOf}
 use Rattle.model.specs.declared.Refusal.{Refusal}
 use Rattle.model.specs.declared.Answer.{Answer}
@@ -14,7 +14,7 @@ use Rattle.model.specs.declared.Answer.the-variants.{Refused}
 use Rattle.model.proofs.Replies.{number-some}
 use Rattle.model.proofs.Tests.{test-le, test-true, test-false, test-yields}
 use Rattle.calls.specs.Change.{Header, Memory, none as no-record, Change, buildRoom?, Leaves, settle}
-use Rattle.calls.specs.Card.{headBytes, headerOf, countOf, edgesOf, cardChecks, cardRefusal, readRefusal, readCall}
+use Rattle.calls.specs.Card.{headerOf, countOf, edgesOf, cardChecks, cardRefusal, readRefusal, readCall}
 use Rattle.calls.proofs.Checks.{none, pass, stop, first-is, Passed, done, also, passes}
 use Rattle.calls.proofs.Change.{stop-first, pass-first, front-passes, change-refused, change-accepted, refused-hands, handedBy, settle-hands}
 use Rattle.calls.proofs.Card.{CardGood, card-good, triples-good}

@@ -8,12 +8,11 @@ use lib.ListN.{length, take, drop}
 use lib.Seq.{take-at}
 use Rattle.model.specs.Lists.{_∈_, Rising, filled}
 use Rattle.model.specs.Limits.{mostEdges, leastWork}
-use Rattle.model.specs.Edges.{edge?}
+use Rattle.model.specs.Edges.{edge?, Bounds}
 use Rattle.model.specs.declared.Answer.{Answer}
 use Rattle.model.proofs.Memory.{length-filled}
 use Rattle.rows.specs.Room.{savedNumbers}
 use Rattle.calls.specs.Change.{Header, Memory, Handed, none, Leaves, settle}
-use Rattle.calls.proofs.Checks.{Header as Bounds}
 use Rattle.calls.proofs.Change.{settle-same}
 use Rattle.settle.specs.Settle.{savedIn, Saves, Settleable, Settles}
 

@@ -1,20 +1,19 @@
 -- The ledger's card reader, byte by byte, and the calls' reader, edge by edge, find the same.
-use mathlib.Core.Path.{_≡_, refl, sym, ap, ap₂, _∙_}
-use mathlib.Core.Logic.{_⊎_, inl, inr, ⊎-elim}
-use mathlib.Core.Bool.{Bool, true, false, not, _&&_, _||_}
+use mathlib.Core.Path.{_≡_, refl, ap, _∙_}
+use mathlib.Core.Logic.{_⊎_, inl, inr}
+use mathlib.Core.Bool.{not, _||_}
 use mathlib.Core.List.{List, [], _∷_, map, List·Memᴰ}
 use Prim.Native.Nat.{ℕ, zero, suc, _+_, _-_, _*_, _≤_, _<_}
 use native.Mathlib.Omega.{arith}
 use native.Mathlib.Decide.{ℕ-discrete, decLt}
-use lib.Dec.{T, eqb, leb, ltb}
-use lib.ListN.{length, getD, drop, drop-of-length-le}
-use Rattle.model.specs.Lists.{from, upTo, any?, within?}
-use Rattle.model.specs.Edges.{edgeNumber}
+use lib.ListN.{length, drop, drop-of-length-le}
+use Rattle.model.specs.Limits.{headBytes}
+use Rattle.model.specs.Lists.{from, upTo, any?}
 use Rattle.model.proofs.Tests.{Tests, test-map, test-agree, test-and, test-or, test-not, test-dec, test-le, test-lt, test-any}
 use Rattle.model.proofs.Lists.{up-to, below}
-use Rattle.calls.specs.Card.{headBytes, edgesOf, risingTriples?}
+use Rattle.calls.specs.Card.{edgesOf, risingTriples?}
 use Rattle.calls.proofs.Card.{drop-three}
-use Rattle.demands.specs.Ledger.{byte, edgeCount, edgeAt, stray, falls, outside}
+use Rattle.demands.specs.Ledger.{byte, edgeCount, edgeAt, stray, falls}
 use Rattle.demands.proofs.Numbers.{not-not}
 
 module _ (bytes : List ℕ) where

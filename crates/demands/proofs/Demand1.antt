@@ -1,11 +1,11 @@
 -- Demand 1 holds.
-use mathlib.Core.Path.{_≡_, refl, sym, ap, _∙_}
+use mathlib.Core.Path.{_≡_, refl, sym, ap}
 use mathlib.Core.Logic.{_≢_}
 use mathlib.Core.Bool.{Bool, true, false, not, _&&_}
-use mathlib.Core.List.{List, [], _∷_, _++_}
-use Prim.Native.Nat.{ℕ, zero, suc, _≤_}
+use mathlib.Core.List.{List, [], _∷_}
+use Prim.Native.Nat.{ℕ, zero, suc}
 use native.Mathlib.Omega.{arith}
-use lib.ListN.{length, drop, length-replicate}
+use lib.ListN.{length, drop}
 use lib.Seq.{drop-append-seam}
 use lib.Dec.{T, eqb}
 use Rattle.model.specs.Lists.{zeroed}
@@ -16,8 +16,8 @@ use Rattle.model.specs.Levels.{levelReply, Yes, No, Spent, Told, found, ended, 
 use Rattle.model.proofs.Search.{told}
 use Rattle.model.proofs.Tests.{test-and, test-not, test-eq, test-T}
 use Rattle.calls.specs.Change.{Header, Memory, Handed, back, none, Change, changedWith, fits?, settle, openRefusal, openCall, insertRefusal, insertCall, removeRefusal, removeCall}
-use Rattle.calls.specs.Card.{Wrote, Length, Refused as NotWritten, Written, writtenWith, readRefusal, readCall, cardOf, writeRefusal, writeCall}
-use Rattle.calls.specs.Search.{Searched, searchedWith, searchRefusal, searchCall}
+use Rattle.calls.specs.Card.{Wrote, Length, Refused as NotWritten, writtenWith, readRefusal, readCall, cardOf, writeRefusal, writeCall}
+use Rattle.calls.specs.Search.{searchedWith, searchRefusal, searchCall}
 use Rattle.calls.specs.Checks.{Check, firstRefusal}
 use Rattle.demands.specs.Demand1.{Keeps, Demand1}
 

@@ -9,4 +9,9 @@ pub mod CardReader
 pub mod Cards
 pub mod Demand1
 pub mod Demand3
+pub mod Reading
+pub mod Right
+pub mod Receiving
 pub mod Demand2
+pub mod Meaning
+pub mod Example

@@ -1,15 +1,14 @@
 -- One call on the station and one turn of the ledger: what both hold, and that it stays so.
-use mathlib.Core.Path.{_≡_, refl, sym, ap, ap₂, _∙_}
-use mathlib.Core.Bool.{Bool, true, false}
-use mathlib.Core.List.{List, []}
-use Prim.Native.Nat.{ℕ, zero, suc, _≤_, _<_}
+use mathlib.Core.Path.{_≡_, refl}
+use mathlib.Core.List.{List}
+use Prim.Native.Nat.{ℕ, zero, suc, _≤_}
 use native.Mathlib.Omega.{arith}
 use lib.ListN.{length}
-use Rattle.model.specs.Lists.{_∈_, filled}
+use Rattle.model.specs.Edges.{Bounds}
+use Rattle.model.specs.Lists.{filled}
 use Rattle.model.specs.Limits.{mostEdges}
 use Rattle.model.proofs.Memory.{length-filled}
 use Rattle.calls.specs.Change.{Header, Memory, Handed, back, Change}
-use Rattle.calls.proofs.Checks.{Header as Bounds}
 use Rattle.calls.proofs.Settling.{Result}
 use Rattle.demands.specs.Ledger.{Book, rising, bookEntries, Shown, Turn, turnWith}
 use Rattle.demands.specs.Station.{Station, memoryOf, after, shownOf, replyOf}
@@ -69,6 +68,12 @@ module _ {slots room : ℕ} (b wanted : Book) where
       → Matches slots room (stationOf slots room b) c (turnWith n b wanted (shownOf given))
   matches zero given r f reach = rw (r .accepted refl) (accepted (shownOf given) (reach refl))
   matches (suc n) given r f reach = refused given r f
+
+  -- a call on any station: the reply alone, refused or not
+  pub first-reply : (n : ℕ) (s : Station) {c done : Change} (given : Handed) {m : Memory} → Result c given m done n
+      → (n ≡ 0 → Reaches slots room done wanted) → replyOf c ≡ turnWith n b wanted (shownOf given) .reply
+  first-reply zero s given r reach = rw (r .accepted refl) (accepted {s = s} (shownOf given) (reach refl) .reply)
+  first-reply (suc n) s given r reach = let k : 1 ≤ suc n = omega arith in rw (r .answer k, r .handed k) refl
 
   -- an accepted call on any station
   pub begins : {n : ℕ} {s : Station} {c done : Change} {given : Handed} (shown : Shown) {m : Memory} → Result c given m done n → n ≡ 0

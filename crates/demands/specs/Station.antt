@@ -3,14 +3,13 @@ use mathlib.Core.List.{List, [], _∷_, map}
 use Prim.Native.Nat.{ℕ, zero, suc}
 use lib.ListN.{length}
 use Rattle.calls.specs.Change.{Header, Memory, Handed, back, none, Change, numbersOf, openCall, insertCall, removeCall}
-use Rattle.calls.specs.Card.{Bytes, readCall}
+use Rattle.calls.specs.Card.{readCall}
 use Rattle.demands.specs.Ledger.{Given, opening, insertion, removal, card, Fed, Shown, shows, nothing, Reply}
 
--- a call, with the work memory lent to it
-pub data Call : Type 0 where
-  opens : Header → Call
-  insert remove : (from label to : ℕ) (work : List ℕ) → Call
-  read : (card : List ℕ) → Bytes card → (work : List ℕ) → Call
+-- a call: what it is given, and the work memory lent to it (an opening uses none)
+pub record Call : Type 0 where
+  pub given : Given
+  pub work : List ℕ
 
 -- edge and index memory, and the record of the last accepted change
 pub record Station : Type 0 where
@@ -22,11 +21,14 @@ abbrev pub memoryOf : Station → List ℕ → Memory
 memoryOf s work = record { edges = s .edges; index = s .index; work = work }
 
 -- what a call comes to: each insertion and removal is handed the record of the last accepted change
+abbrev pub changeOn : Station → List ℕ → Given → Change
+changeOn s work (opening vertices longest) = openCall (record { vertices = vertices; longest = longest }) (memoryOf s [])
+changeOn s work (insertion from label to) = insertCall (s .header) from label to (memoryOf s work)
+changeOn s work (removal from label to) = removeCall (s .header) from label to (memoryOf s work)
+changeOn s work (card bytes _) = readCall bytes (memoryOf s work)
+
 abbrev pub change : Station → Call → Change
-change s (opens h) = openCall h (memoryOf s [])
-change s (insert from label to work) = insertCall (s .header) from label to (memoryOf s work)
-change s (remove from label to work) = removeCall (s .header) from label to (memoryOf s work)
-change s (read bytes _ work) = readCall bytes (memoryOf s work)
+change s c = changeOn s (c .work) (c .given)
 
 -- the record after a call
 abbrev pub headerAfter : ℕ → Header → Handed → Header
@@ -56,20 +58,8 @@ run s (c ∷ more) =
 
 -- ---- what the ledger is shown of a call: what it is given and how many slots are lent, not what memory holds
 
-abbrev pub givenBy : Call → Given
-givenBy (opens h) = opening (h .vertices) (h .longest)
-givenBy (insert from label to work) = insertion from label to
-givenBy (remove from label to work) = removal from label to
-givenBy (read bytes _ work) = card bytes
-
-abbrev pub workOf : Call → ℕ
-workOf (opens h) = 0
-workOf (insert from label to work) = length work
-workOf (remove from label to work) = length work
-workOf (read bytes _ work) = length work
-
 abbrev pub fedBy : (edgeSlots indexSlots : ℕ) → Call → Fed
-fedBy edgeSlots indexSlots c = record { given = givenBy c; edgeSlots = edgeSlots; indexSlots = indexSlots; workSlots = workOf c }
+fedBy edgeSlots indexSlots c = record { given = c .given; edgeSlots = edgeSlots; indexSlots = indexSlots; workSlots = length (c .work) }
 
 -- the ledger of a station's calls: edge and index memory are the same throughout
 abbrev pub fedAll : Station → List Call → List Fed

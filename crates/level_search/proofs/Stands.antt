@@ -14,8 +14,8 @@ use lib.Seq.{getD-set-same, getD-set-other}
 use Rattle.model.specs.Lists.{_∈_}
 use Rattle.model.specs.Limits.{mostVertices, leastWork}
 use Rattle.model.specs.Edges.{bare, edge?, toOf}
-use Rattle.model.specs.Levels.{vertexOf, mostStates, Leads, stage, level, Reply, Yes, No, Spent, replyFrom, levelReply}
-use Rattle.model.proofs.Levels.{IsState, Fresh, Met, look, Reached, level-zero, level-iff}
+use Rattle.model.specs.Levels.{IsState, Fresh, Reached, vertexOf, mostStates, Leads, stage, level, Reply, Yes, No, Spent, replyFrom, levelReply}
+use Rattle.model.proofs.Levels.{Met, look, level-zero, level-iff}
 use Rattle.model.proofs.Edges.{edge-to}
 use Rattle.model.proofs.Search.{reply-yes, reply-no, reply-on}
 use Rattle.level_search.specs.Work.{marks, queue, Room, At, Grown, Next, Fit, Short}

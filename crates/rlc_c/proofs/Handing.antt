@@ -3,9 +3,8 @@ use mathlib.Core.Path.{_≡_, refl, sym, ap, _∙_}
 use mathlib.Core.Bool.{true, false, cond}
 use mathlib.Core.List.{List, [], _∷_}
 use Prim.Native.Nat.{ℕ, _*_, _^_, _≤_}
-use native.Mathlib.Decide.{decLt}
 use native.Mathlib.Omega.{arith}
-use lib.ListN.{length, drop, set}
+use lib.ListN.{length, set}
 use Rattle.model.specs.Limits.{mostLongest}
 use Rattle.model.specs.Patterns.{foldedLength}
 use Rattle.model.specs.Replies.{numberOf, answerOf, replyOf}
@@ -16,11 +15,10 @@ use Rattle.model.specs.declared.Answer.{Answer}
 use Rattle.model.specs.declared.Answer.the-variants.{Accepted, Refused}
 use Rattle.model.proofs.Tests.{test-true, test-false, test-eq, by-test}
 use Rattle.model.proofs.Patterns.{test-keyed, folded}
-use Rattle.model.proofs.Replies.{number-some}
 use Rattle.calls.specs.Change.{Header, Memory, back, none, Change, numbersOf, Leaves}
 use Rattle.calls.specs.Search.{Searched, SearchMeets}
-use Rattle.calls.specs.Card.{headBytes, headerOf, edgesOf, readRefusal, readCall, Written as CardWritten}
-use Rattle.calls.proofs.Settling.{Result, settledChange, settled}
+use Rattle.calls.specs.Card.{readCall, Written as CardWritten}
+use Rattle.calls.proofs.Settling.{read-hands}
 use Rattle.store.specs.Store.{numbers, Meets, wroteOf, WriteMeets}
 use Rattle.store.specs.declared.Changed.{Changed}
 use Rattle.store.specs.declared.Written.{Written}
@@ -74,33 +72,14 @@ kept {words} e hands l q =
       work-after = rw t (l .work-after);
     }
 
--- the record that a card reading hands back: the card's where it is accepted, else none
-read-result : (card : List ℕ) (m : Memory)
-    → (n : ℕ) × Result (readCall card m) none m (settledChange (headerOf card) (edgesOf (drop headBytes card)) m) n
-unfolding readCall readRefusal
-read-result card m = (_, settled none (headerOf card) (edgesOf (drop headBytes card)) m _ tt)
-
-read-accepted : (card : List ℕ) (m : Memory) → 0 ≡ readCall card m .answer → readCall card m .handed ≡ back (headerOf card)
-read-accepted card m e =
-    let (n, r) = read-result card m in
-    elim (decLt 0 n) [ yes h ↦ absurd (omega (arith, h, r .answer h, e)) | no h ↦ ap (λ (c : Change). c .handed) (r .accepted (omega (arith, h))) ]
-
-read-refused : (card : List ℕ) (m : Memory) (refusal : Refusal) → numberOf refusal ≡ readCall card m .answer → readCall card m .handed ≡ none
-read-refused card m refusal e =
-    let (n, r) = read-result card m in
-    elim (decLt 0 n) [
-      | yes h ↦ r .handed h
-      | no h ↦ absurd (let z = ap (λ (c : Change). c .answer) (r .accepted (omega (arith, h))) in omega (arith, z, e, number-some refusal))
-    ]
-
 module _ (card : List ℕ) {words edges index work : List ℕ} {m : Memory} {made : Changed} {r : ℕ} (e : length words ≡ 2) (meets : Meets (readCall card m) made edges index work) where
   pub card-refused : {refusal : Refusal} → made .answer ≡ Refused refusal → r ≡ numberOf refusal → ChangesInC words m (readCall card m) r words edges index work
   card-refused {refusal} told q =
       let number : numberOf refusal ≡ answerOf (made .answer) = sym (ap answerOf told) in
-      kept e (read-refused card m refusal (number ∙ meets .leaves .answer)) (meets .leaves) (q ∙ number)
+      kept e (read-hands card m (Refused refusal) (number ∙ meets .leaves .answer)) (meets .leaves) (q ∙ number)
 
   pub card-accepted : {words′ : List ℕ} → made .answer ≡ Accepted → HandsBack made r words′ → ChangesInC words m (readCall card m) r words′ edges index work
-  card-accepted told b = changed e (read-accepted card m (sym (ap answerOf told) ∙ meets .leaves .answer)) meets b
+  card-accepted told b = changed e (read-hands card m Accepted (sym (ap answerOf told) ∙ meets .leaves .answer)) meets b
 
 -- ---- calls that change no record
 

@@ -10,7 +10,7 @@ ghost use mathlib.Core.Path.{_≡_};
 ghost use mathlib.Core.Bool.{cond};
 ghost use mathlib.Core.List.{[]};
 ghost use lib.ListN.{length, getD};
-ghost use Rattle.model.specs.Patterns.{foldedLength};
+ghost use Rattle.model.specs.Patterns.{Folds};
 ghost use Rattle.calls.specs.Change.{openCall, insertCall, removeCall};
 ghost use Rattle.calls.specs.Card.{readCall, writeCall};
 ghost use Rattle.calls.specs.Query.{queryCall};
@@ -237,10 +237,10 @@ pub extern "C" fn rlc_write_card(words: &[u32], edges: &[u32], output: &mut [u8]
     }
 }
 
-// The length of a pattern's minimum repeat.
+// The length of a pattern's minimum repeat, which is the pattern's first labels.
 #[no_mangle]
 pub extern "C" fn rlc_minimum_repeat(pattern: &[u8]) -> u32
-    ensures { λ r. ⌜ r ≡ foldedLength (now (pattern .entry)) ⌝ }
+    ensures { λ r. ⌜ Folds (now (pattern .entry)) r ⌝ }
 {
     let folded = store::minimum_repeat(pattern);
     folded.length as u32

@@ -4,15 +4,16 @@ use mathlib.Core.List.{List, _++_}
 use Prim.Native.Nat.{ℕ, zero, suc, _+_, _*_, _≤_, _<_}
 use native.Mathlib.Omega.{arith}
 use lib.ListN.{length, take, drop}
-use Rattle.model.specs.Edges.{standing}
+use Rattle.model.specs.Limits.{headBytes}
+use Rattle.model.specs.Edges.{standing, Bounds}
 use Rattle.model.specs.Replies.{numberOf}
 use Rattle.model.specs.declared.Refusal.{Refusal}
 use Rattle.model.proofs.Replies.{number-some}
 use Rattle.model.proofs.Tests.{test-le, test-true, test-false}
 use Rattle.edges.proofs.Memory.{Scans}
 use Rattle.calls.specs.Change.{Header as Numbers}
-use Rattle.calls.specs.Card.{headBytes, cardOf, writeRefusal, Length as WroteLength, Refused as WroteRefused, writtenWith, writeCall}
-use Rattle.calls.proofs.Checks.{Header as Bounds, none, pass, stop}
+use Rattle.calls.specs.Card.{cardOf, writeRefusal, Length as WroteLength, Refused as WroteRefused, writtenWith, writeCall}
+use Rattle.calls.proofs.Checks.{none, pass, stop}
 use Rattle.calls.proofs.Card.{Cardable, card-says}
 use Rattle.checks.specs.LayoutChecks.{LayoutPasses}
 use Rattle.checks.proofs.LayoutChecks.{layout-pass, layout-header, layout-memory}
@@ -61,10 +62,7 @@ module _ {h : Numbers} {edges output : List ℕ} {n : ℕ} (p : Writes h edges o
   cardable : Cardable h (standing edges)
   cardable =
       record {
-        vertices-least = header .vertices-least;
-        vertices-most = header .vertices-most;
-        longest-least = header .longest-least;
-        longest-most = header .longest-most;
+        bounds = header;
         few = omega (arith, memory .count, memory .within, memory .slots);
         rising = memory .rising;
         valid = memory .edges;
@@ -72,9 +70,9 @@ module _ {h : Numbers} {edges output : List ℕ} {n : ℕ} (p : Writes h edges o
 
   pub writable : Writable h (take n edges) output
   writable = rw (memory .front) (record {
-    vertices-least = cardable .vertices-least;
-    vertices-most = cardable .vertices-most;
-    longest-most = cardable .longest-most;
+    vertices-least = header .vertices-least;
+    vertices-most = header .vertices-most;
+    longest-most = header .longest-most;
     few = cardable .few;
     valid = cardable .valid;
     room = omega (arith, p .room, memory .count);

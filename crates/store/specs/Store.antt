@@ -3,12 +3,13 @@ use mathlib.Core.Path.{_≡_}
 use mathlib.Core.List.{List}
 use Prim.Native.Nat.{ℕ, _+_, _*_, _≤_}
 use lib.ListN.{length}
+use Rattle.model.specs.Limits.{headBytes}
 use Rattle.model.specs.Replies.{numberOf}
 use Rattle.checks.specs.declared.Standing.{Standing}
 use Rattle.checks.specs.declared.Standing.the-variants.{Edges, Refused as NotStanding}
 use Rattle.checks.specs.LayoutChecks.{LayoutPasses}
 use Rattle.calls.specs.Change.{Header as Numbers, Change, numbersOf, Leaves}
-use Rattle.calls.specs.Card.{headBytes, Wrote, Length as WroteLength, Refused as WroteRefused, Written as CardWritten, writeRefusal}
+use Rattle.calls.specs.Card.{Wrote, Length as WroteLength, Refused as WroteRefused, Written as CardWritten, writeRefusal}
 use Rattle.store.specs.declared.Header.{Header}
 use Rattle.store.specs.declared.Changed.{Changed}
 use Rattle.store.specs.declared.Written.{Written}

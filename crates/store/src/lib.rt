@@ -8,7 +8,7 @@ use model::SearchReply;
 use patterns::Folded;
 ghost use mathlib.Core.Path.{_≡_};
 ghost use mathlib.Core.List.{[]};
-ghost use Rattle.model.specs.Patterns.{foldedLength};
+ghost use Rattle.model.specs.Patterns.{Folds};
 ghost use Rattle.model.specs.Replies.{answeredOf, numberOf};
 ghost use Rattle.calls.specs.Change.{openCall, insertCall, removeCall};
 ghost use Rattle.calls.specs.Card.{readCall, writeCall};
@@ -215,9 +215,9 @@ pub fn level_search(
     )
 }
 
-// The length of a pattern's minimum repeat.
+// The length of a pattern's minimum repeat, which is the pattern's first labels.
 pub fn minimum_repeat(pattern: &[u8]) -> Folded
-    ensures { λ r. ⌜ r .length ≡ foldedLength (now (pattern .entry)) ⌝ }
+    ensures { λ r. ⌜ Folds (now (pattern .entry)) (r .length) ⌝ }
 {
     patterns::minimum_repeat(pattern)
 }

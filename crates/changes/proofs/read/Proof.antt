@@ -5,8 +5,9 @@ use Prim.Native.Nat.{ℕ}
 use native.Mathlib.Omega.{arith}
 use borrow.Author.Needs.{needs}
 use lib.ListN.{drop}
+use Rattle.model.specs.Limits.{headBytes}
 use Rattle.calls.specs.Change.{Header, Memory, none, numbersOf, Leaves, settle}
-use Rattle.calls.specs.Card.{headBytes, edgesOf}
+use Rattle.calls.specs.Card.{edgesOf}
 use Rattle.changes.specs.Changes.{Reads}
 use Rattle.changes.proofs.Trying.{Wanted, Tried, save-room, settleable, settled}
 use Rattle.changes.proofs.Reading.{read-fillable, read-wanted, read-leaves, read-hands, leaves-as, refused-leaves, refused-none}
