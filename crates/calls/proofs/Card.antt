@@ -16,7 +16,7 @@ use Rattle.model.proofs.Tests.{Tests, test-map, test-and, test-le, test-lt, tes
 use Rattle.model.proofs.Lists.{in-getD}
 use Rattle.model.proofs.Edges.{edge-fields, test-edge}
 use Rattle.model.proofs.Memory.{edge-least}
-use Rattle.calls.specs.Change.{Header}
+use Rattle.calls.specs.Call.{Header}
 use Rattle.calls.specs.Card.{mark, wordAt, edgeBytes, edgeAt, edgeAt?, cardOf, marked?, version?, headerOf, countOf, edgesOf, risingTriples?, cardEdges?, cardChecks, cardRefusal}
 use Rattle.calls.proofs.Checks.{First, none as all-pass, pass, first-is, Passed, done, also, passes, test-ends, test-longest}
 

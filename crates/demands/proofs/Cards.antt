@@ -12,14 +12,15 @@ use Rattle.model.specs.Limits.{mostEdges, mostLongest, headBytes}
 use Rattle.model.specs.Entries.{determined}
 use Rattle.model.proofs.Tests.{test-true, test-false, test-yields, test-fails, test-and, test-eq, test-le, test-lt, test-T}
 use Rattle.calls.specs.Checks.{Check, firstRefusal}
-use Rattle.calls.specs.Change.{Memory, graphOf, none, buildRoom?, fits?}
-use Rattle.calls.specs.Card.{marked?, headerOf, countOf, edgesOf, risingTriples?, cardEdges?, cardChecks, readRefusal, readCall}
+use Rattle.calls.specs.Call.{Memory, graphOf}
+use Rattle.calls.specs.Change.{buildRoom?, fits?}
+use Rattle.calls.specs.Card.{marked?, headerOf, countOf, edgesOf, risingTriples?, cardEdges?, cardChecks, readRefusal, noRecord, readCall}
 use Rattle.calls.proofs.Checks.{test-longest}
 use Rattle.calls.proofs.Settling.{Result, settledChange, settled}
 use Rattle.calls.proofs.Passing.{passing}
 use Rattle.calls.proofs.Card.{marked-short, marked-at, card-edges-long, card-edges-body, triples-good, length-edges, card-vertices}
 use Rattle.demands.specs.Ledger.{Book, card as cardGiven, rising, bookEntries, narrow, full, byte, edgeCount, edgeAt, stray, falls, cardBook, cardNumber, nothing, turn}
-use Rattle.demands.specs.Station.{Call, Station, memoryOf, fedBy, replyOf}
+use Rattle.demands.specs.Station.{Call, Station, memoryOf, fedBy, replyTo}
 use Rattle.demands.proofs.Rising.{EdgesOf, rising-is}
 use Rattle.demands.proofs.Numbers.{Gives, gives-none, chain, above-not, either-not, outside-not}
 use Rattle.demands.proofs.CardReader.{triples-agree, edges-agree}
@@ -125,8 +126,7 @@ module _ (card : List ℕ) (bytes : Bytes card) (work : List ℕ) where
         let space : n ≤ slots = rw wide at (test-yields (test-le (countOf card) (length (s .edges))) nine) in
         let is : rising (map (edgeAt card) (upTo n)) ≡ wanted = rw (w .edges-are) (w .rises) in
         record {
-          answer = refl;
-          handed = refl;
+          reply = refl;
           edges = rw (wide, is) refl;
           index = rw (long, is) refl;
           fine = record {
@@ -138,26 +138,26 @@ module _ (card : List ℕ) (bytes : Bytes card) (work : List ℕ) where
           };
         }
 
-    read-result : Result (readCall card m) none m (settledChange (headerOf card) wanted m) (firstRefusal allChecks)
+    read-result : Result (readCall card m) noRecord m (settledChange (headerOf card) wanted m) (firstRefusal allChecks)
     unfolding readCall readRefusal
-    read-result = settled none (headerOf card) wanted m readChecks tt
+    read-result = settled noRecord (headerOf card) wanted m readChecks tt
 
     pub read-begins : (b : Book) → cardNumber card (fedBy slots room reads) ≡ 0
-        → Matches slots room s (readCall card m) (turn b (fedBy slots room reads))
+        → Matches slots room s (reads .given) (readCall card m) (turn b (fedBy slots room reads))
     unfolding turn
     read-begins b e =
         let z : firstRefusal allChecks ≡ 0 = read-gives .is ∙ e in
-        rw (sym (read-gives .is)) (begins b (cardBook card) nothing read-result z (read-reaches z))
+        rw (sym (read-gives .is)) (begins b (cardBook card) (reads .given) noRecord nothing (λ n. refl) read-result z (read-reaches z))
 
-    pub read-first : (b : Book) → replyOf (readCall card m) ≡ turn b (fedBy slots room reads) .reply
+    pub read-first : (b : Book) → replyTo (reads .given) (readCall card m .reply) ≡ turn b (fedBy slots room reads) .reply
     unfolding turn
-    read-first b = rw (sym (read-gives .is)) (first-reply b (cardBook card) (firstRefusal allChecks) s none read-result read-reaches)
+    read-first b = rw (sym (read-gives .is)) (first-reply b (cardBook card) (reads .given) noRecord nothing (λ n. refl) (firstRefusal allChecks) s read-result read-reaches)
 
   pub read-matches : {slots room : ℕ} {b : Book} → Fine slots room b
-      → Matches slots room (stationOf slots room b) (readCall card (memoryOf (stationOf slots room b) work)) (turn b (fedBy slots room reads))
+      → Matches slots room (stationOf slots room b) (reads .given) (readCall card (memoryOf (stationOf slots room b) work)) (turn b (fedBy slots room reads))
   unfolding turn
   read-matches {slots} {room} {b} f =
       let s = stationOf slots room b in
       rw (sym (read-gives s (edge-slots f) (index-slots f) .is))
-      (matches b (cardBook card) (firstRefusal (allChecks s (edge-slots f) (index-slots f))) none (read-result s (edge-slots f) (index-slots f)) f
+      (matches b (cardBook card) (reads .given) noRecord nothing (λ n. refl) (firstRefusal (allChecks s (edge-slots f) (index-slots f))) (read-result s (edge-slots f) (index-slots f)) f
       (read-reaches s (edge-slots f) (index-slots f)))

@@ -16,12 +16,13 @@ use Rattle.model.proofs.Lists.{keep-in, keep-out}
 use Rattle.model.proofs.Edges.{edge-fields, test-edge}
 use Rattle.model.proofs.Memory.{edge-least, standing-filled, filled-memory}
 use Rattle.calls.specs.Checks.{ends?, Check, firstRefusal}
-use Rattle.calls.specs.Change.{Memory, back, graphOf, changeChecks, fits?, insertCall, insertRefusal, removeCall, removeRefusal}
+use Rattle.calls.specs.Call.{Memory, graphOf}
+use Rattle.calls.specs.Change.{changeChecks, fits?, insertCall, insertRefusal, removeCall, removeRefusal}
 use Rattle.calls.proofs.Checks.{test-ends}
 use Rattle.calls.proofs.Settling.{settledChange, settled}
 use Rattle.calls.proofs.Passing.{passing}
 use Rattle.model.proofs.Insertion.{length-insert, member-insert, rising-insert, length-remove, member-remove, rising-remove}
-use Rattle.demands.specs.Ledger.{Book, Fed, insertion, removal, rising, bookEntries, narrow, full, namedNumber, inserted, insertionNumber, removed, removalNumber, turn}
+use Rattle.demands.specs.Ledger.{Book, Fed, insertion, removal, rising, bookEntries, narrow, full, namedNumber, inserted, insertionNumber, removed, removalNumber, shows, turn}
 use Rattle.demands.specs.Station.{Call, memoryOf, fedBy}
 use Rattle.demands.proofs.Rising.{EdgesOf, edge-below, rising-rises, rising-in, rising-out, rising-is}
 use Rattle.demands.proofs.Numbers.{Gives, gives-none, chain, above-not, from-not, either-not, not-not, outside-not}
@@ -161,8 +162,7 @@ module _ {slots room : ℕ} {b : Book} (f : Fine slots room b) (from label to : 
       let is = inserted-is q gone in
       let space : length L < slots = rw (stands, edge-slots f) at (test-yields (test-lt (length (standing (filled slots L))) (length (filled slots L))) nine) in
       record {
-        answer = refl;
-        handed = refl;
+        reply = refl;
         edges = rw (edge-slots f, is) refl;
         index = rw (index-slots f, is) refl;
         fine = record {
@@ -174,12 +174,13 @@ module _ {slots room : ℕ} {b : Book} (f : Fine slots room b) (from label to : 
         };
       }
 
-  pub insert-matches : Matches slots room (stationOf slots room b) (insertCall (recordOf b) from label to m) (turn b (fedBy slots room inserts))
+  pub insert-matches : Matches slots room (stationOf slots room b) (inserts .given) (insertCall (recordOf b) from label to m) (turn b (fedBy slots room inserts))
   unfolding insertCall insertRefusal turn
   insert-matches =
-      let r = settled (back (recordOf b)) (recordOf b) grown m insertChecks tt in
+      let r = settled (recordOf b) (recordOf b) grown m insertChecks tt in
       rw (sym (insert-gives .is))
-      (matches b (inserted b x) (firstRefusal (insertChecks ++ ((13, fits? (recordOf b) grown m) ∷ []))) (back (recordOf b)) r f insert-reaches)
+      (matches b (inserted b x) (inserts .given) (recordOf b) (shows (b .vertices) (b .longest)) (λ n. refl)
+      (firstRefusal (insertChecks ++ ((13, fits? (recordOf b) grown m) ∷ []))) r f insert-reaches)
 
   -- ---- lifting
 
@@ -223,8 +224,7 @@ module _ {slots room : ℕ} {b : Book} (f : Fine slots room b) (from label to : 
       let here : x ∈ L = rw stands at (test-yields (test-mem x (standing (filled slots L))) there) in
       let size : length (rising (keep others (b .edges))) < length L = rw (removed-is, stands) (omega (arith, length-remove x L here)) in
       record {
-        answer = refl;
-        handed = refl;
+        reply = refl;
         edges = rw (edge-slots f, removed-is) refl;
         index = rw (index-slots f, removed-is) refl;
         fine = record {
@@ -236,9 +236,10 @@ module _ {slots room : ℕ} {b : Book} (f : Fine slots room b) (from label to : 
         };
       }
 
-  pub remove-matches : Matches slots room (stationOf slots room b) (removeCall (recordOf b) from label to m) (turn b (fedBy slots room removes))
+  pub remove-matches : Matches slots room (stationOf slots room b) (removes .given) (removeCall (recordOf b) from label to m) (turn b (fedBy slots room removes))
   unfolding removeCall removeRefusal turn
   remove-matches =
-      let r = settled (back (recordOf b)) (recordOf b) less m removeChecks tt in
+      let r = settled (recordOf b) (recordOf b) less m removeChecks tt in
       rw (sym (remove-gives .is))
-      (matches b (removed b x) (firstRefusal (removeChecks ++ ((13, fits? (recordOf b) less m) ∷ []))) (back (recordOf b)) r f remove-reaches)
+      (matches b (removed b x) (removes .given) (recordOf b) (shows (b .vertices) (b .longest)) (λ n. refl)
+      (firstRefusal (removeChecks ++ ((13, fits? (recordOf b) less m) ∷ []))) r f remove-reaches)

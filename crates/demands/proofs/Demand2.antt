@@ -1,13 +1,13 @@
 -- Demand 2 holds.
 use mathlib.Core.Path.{_≡_, refl, sym, ap, ap₂, _∙_}
-use mathlib.Core.Bool.{Bool, true, false}
+use mathlib.Core.Bool.{true}
 use mathlib.Core.List.{List, [], _∷_, _++_}
-use Prim.Native.Nat.{ℕ, zero, suc, _+_, _*_, _≤_, _<_}
+use Prim.Native.Nat.{ℕ, zero, suc, _+_, _*_, _≤_}
 use native.Mathlib.Omega.{arith}
 use lib.Dec.{leb}
 use lib.ListN.{length, take, drop}
 use lib.Seq.{take-append-seam}
-use Rattle.model.specs.Lists.{_∈_, Rising, filled, Bytes}
+use Rattle.model.specs.Lists.{filled, Bytes}
 use Rattle.model.specs.Limits.{mostEdges, leastWork, headBytes, tripleBytes}
 use Rattle.model.specs.Edges.{edgeMemory?, standing}
 use Rattle.model.specs.Entries.{determined}
@@ -15,8 +15,9 @@ use Rattle.model.proofs.Tests.{test-true, test-le}
 use Rattle.model.proofs.Zeros.{filled-within}
 use Rattle.model.proofs.Memory.{edge-memory, edge-least, standing-filled, filled-memory}
 use Rattle.calls.specs.Checks.{vertices?, longest?, Check, firstRefusal}
-use Rattle.calls.specs.Change.{Header, graphOf, Memory, none as no-record, Change, numbersOf, buildRoom?, fits?}
-use Rattle.calls.specs.Card.{headerOf, countOf, edgesOf, cardOf, cardChecks, cardRefusal, readRefusal, readCall, Length, writtenWith, writeRefusal, writeCall}
+use Rattle.calls.specs.Call.{Header, graphOf, Memory, Outcome}
+use Rattle.calls.specs.Change.{buildRoom?, fits?}
+use Rattle.calls.specs.Card.{headerOf, countOf, edgesOf, cardOf, cardChecks, cardRefusal, readRefusal, noRecord, readCall, Wrote, Length, writeRefusal, writeCall}
 use Rattle.calls.proofs.Checks.{none, pass, first-is, bounded, bounds-pass}
 use Rattle.calls.proofs.Change.{pass-first}
 use Rattle.calls.proofs.Settling.{settledChange, settled}
@@ -33,37 +34,35 @@ use Rattle.demands.proofs.Receiving.{receiving-same}
 -- ---- (b) a card that was written, read again
 
 -- the length, and the checks that have passed
-record Accepted (h : Header) (edges output : List ℕ) (n : ℕ) : Type 0 where
-  size : n ≡ length (cardOf h (standing edges))
-  out : writeCall h edges output .output ≡ cardOf h (standing edges) ++ drop n output
-  cardable : Cardable h (standing edges)
+record Accepted (h : Header) (w : Memory) (n : ℕ) : Type 0 where
+  size : n ≡ length (cardOf h (standing (w .edges)))
+  out : writeCall h w .memory .output ≡ cardOf h (standing (w .edges)) ++ drop n (w .output)
+  cardable : Cardable h (standing (w .edges))
 
-abbrev writeChecks : (h : Header) (edges output : List ℕ) → List Check
-writeChecks h edges output =
+abbrev writeChecks : Header → Memory → List Check
+writeChecks h w =
     (1, vertices? (h .vertices))
     ∷ (2, longest? (h .longest))
-    ∷ (3, edgeMemory? (h .vertices) edges)
-    ∷ (17, leb (headBytes + tripleBytes * length (standing edges)) (length output))
+    ∷ (3, edgeMemory? (h .vertices) (w .edges))
+    ∷ (17, leb (headBytes + tripleBytes * length (standing (w .edges))) (length (w .output)))
     ∷ []
 
-wrote : (h : Header) (edges output : List ℕ) {n : ℕ} → writeCall h edges output .reply ≡ Length n → Accepted h edges output n
+wrote : (h : Header) (w : Memory) {n : ℕ} → writeCall h w .reply ≡ Length n → Accepted h w n
 unfolding writeCall
-wrote h edges output {n} e = go (writeRefusal h edges output) refl e
+wrote h w {n} e = go (writeRefusal h w) refl e
   where
-    go : (k : ℕ) → writeRefusal h edges output ≡ k → writtenWith (writeRefusal h edges output) (cardOf h (standing edges)) output .reply ≡ Length n
-        → Accepted h edges output n
+    go : (k : ℕ) → writeRefusal h w ≡ k → writeCall h w .reply ≡ Length n → Accepted h w n
     go (suc k) q e = absurd (let z : 1 ≡ 0 = ap kind (rw q at e) in omega (arith, z))
     go zero q e =
-        let (v, (k, (mem, _))) = passing (writeChecks h edges output) tt (unfold writeRefusal in q) in
-        let b = bounded v k in
-        let (few, s) = edge-memory (h .vertices) edges mem in
-        let size : length (cardOf h (standing edges)) ≡ n = ap numberIn (rw q at e) in
+        let (v, (k, (mem, _))) = passing (writeChecks h w) tt (unfold writeRefusal in q) in
+        let (few, s) = edge-memory (h .vertices) (w .edges) mem in
+        let size : length (cardOf h (standing (w .edges))) ≡ n = ap numberIn (rw q at e) in
         record {
           size = sym size;
           out = rw (q, sym size) refl;
           cardable = record {
-            bounds = b;
-            few = omega (arith, few, filled-within (standing edges) (s .zeros));
+            bounds = bounded v k;
+            few = omega (arith, few, filled-within (standing (w .edges)) (s .zeros));
             rising = s .sorted;
             valid = λ x k. s .each x k .1;
           };
@@ -75,7 +74,7 @@ read-accepted : (card : List ℕ) (m : Memory) {h : Header} {edges : List ℕ} �
 unfolding readCall readRefusal
 read-accepted card m {h} {edges} says room =
     let q : firstRefusal (cardChecks card ++ later) ≡ 0 = pass-first (cardChecks card) later tt (unfold cardRefusal in says .passes) ∙ rest in
-    settled no-record (headerOf card) (edgesOf (drop headBytes card)) m (cardChecks card ++ more) tt .accepted q
+    settled noRecord (headerOf card) (edgesOf (drop headBytes card)) m (cardChecks card ++ more) tt .accepted q
     ∙ ap₂ (λ (k : Header) (l : List ℕ). settledChange k l m) (says .header) (says .edges-are)
   where
     more : List Check
@@ -97,47 +96,56 @@ read-accepted card m {h} {edges} says room =
         (pass (test-true (test-le (leastWork + length (m .index)) (length (m .work))) (room .work))
         (pass thirteen none))))
 
-reading : (h : Header) (edges output : List ℕ) (n : ℕ) (m : Memory) → writeCall h edges output .reply ≡ Length n
-    → Roomy m (length (standing edges)) (length (determined (graphOf h (standing edges))))
-    → Restores h edges m (readCall (take n (writeCall h edges output .output)) m)
-reading h edges output n m e room =
-    let a = wrote h edges output e in
-    let bytes : take n (writeCall h edges output .output) ≡ cardOf h (standing edges)
-    = rw (a .out) (ap (λ (k : ℕ). take k (cardOf h (standing edges) ++ drop n output)) (a .size) ∙ take-append-seam (cardOf h (standing edges)) (drop n output)) in
-    rw (bytes, read-accepted (cardOf h (standing edges)) m (card-says (a .cardable)) room)
-    (record { accepted = refl; header = refl; edges-back = refl; index-back = refl })
+reading : (h : Header) (w : Memory) (n : ℕ) (m : Memory) → writeCall h w .reply ≡ Length n
+    → Roomy m (length (standing (w .edges))) (length (determined (graphOf h (standing (w .edges)))))
+    → Restores h (w .edges) m (readCall (take n (writeCall h w .memory .output)) m)
+reading h w n m e room =
+    let a = wrote h w e in
+    let card = cardOf h (standing (w .edges)) in
+    let bytes : take n (writeCall h w .memory .output) ≡ card
+    = rw (a .out) (ap (λ (k : ℕ). take k (card ++ drop n (w .output))) (a .size) ∙ take-append-seam card (drop n (w .output))) in
+    rw (bytes, read-accepted card m (card-says (a .cardable)) room) (record { accepted = refl; header = refl; edges-back = refl; index-back = refl })
 
 -- ---- (c) a card that was read, written again
 
-writes-back : (card output : List ℕ) (m : Memory) → Bytes card → Said card m → length card ≤ length output
-    → writeCall (headerOf card) (filled (length (m .edges)) (edgesOf (drop headBytes card))) output
-    ≡ record { reply = Length (length card); output = card ++ drop (length card) output }
+-- what a written card comes to
+record WritesBack (bytes output : List ℕ) (w : Outcome Wrote) : Type 0 where
+  reply : w .reply ≡ Length (length bytes)
+  output-is : w .memory .output ≡ bytes ++ drop (length bytes) output
+
+writes-back : (bytes output : List ℕ) (m : Memory) → Bytes bytes → Said bytes m → length bytes ≤ length output
+    → WritesBack bytes output (writeCall (headerOf bytes) (record { edges = filled (length (m .edges)) (edgesOf (drop headBytes bytes)); index = []; work = []; output = output }))
 unfolding writeCall writeRefusal
-writes-back card output m bytes c long = rw (no-refusal, stands, card-again card (c .passes) bytes) refl
+writes-back bytes output m small c long = rw (no-refusal, stands, card-again bytes (c .passes) small) (record { reply = refl; output-is = refl })
   where
     wanted : List ℕ
-    wanted = edgesOf (drop headBytes card)
+    wanted = edgesOf (drop headBytes bytes)
+
+    w : Memory
+    w = record { edges = filled (length (m .edges)) wanted; index = []; work = []; output = output }
 
     stands : standing (filled (length (m .edges)) wanted) ≡ wanted
-    stands = standing-filled (length (m .edges)) wanted (λ x k. omega (arith, edge-least (headerOf card .vertices) x (c .valid x k)))
+    stands = standing-filled (length (m .edges)) wanted (λ x k. omega (arith, edge-least (headerOf bytes .vertices) x (c .valid x k)))
 
-    size : headBytes + tripleBytes * length wanted ≡ length card
-    size = omega (arith, card-good card (c .passes) .count, card-good card (c .passes) .whole)
+    size : headBytes + tripleBytes * length wanted ≡ length bytes
+    size = omega (arith, card-good bytes (c .passes) .count, card-good bytes (c .passes) .whole)
 
     seventeen : leb (headBytes + tripleBytes * length (standing (filled (length (m .edges)) wanted))) (length output) ≡ true
-    seventeen = rw (stands, size) (test-true (test-le (length card) (length output)) long)
+    seventeen = rw (stands, size) (test-true (test-le (length bytes) (length output)) long)
 
-    no-refusal : writeRefusal (headerOf card) (filled (length (m .edges)) wanted) output ≡ 0
+    no-refusal : writeRefusal (headerOf bytes) w ≡ 0
     no-refusal =
         first-is (bounds-pass (c .bounds)
-        (pass (filled-memory (headerOf card .vertices) (length (m .edges)) wanted (c .fits) (c .few) (c .rising) (c .valid)) (pass seventeen none)))
+        (pass (filled-memory (headerOf bytes .vertices) (length (m .edges)) wanted (c .fits) (c .few) (c .rising) (c .valid)) (pass seventeen none)))
 
-writing : (card output : List ℕ) (m : Memory) → Bytes card → readCall card m .answer ≡ 0 → length card ≤ length output
-    → writeCall (numbersOf (readCall card m .handed)) (readCall card m .memory .edges) output
-    ≡ record { reply = Length (length card); output = card ++ drop (length card) output }
-writing card output m bytes e long =
-    let c = read-said card m bytes e in
-    ap (λ (k : Change). writeCall (numbersOf (k .handed)) (k .memory .edges) output) (c .is) ∙ writes-back card output m bytes c long
+writing : (bytes output : List ℕ) (m : Memory) → Bytes bytes → readCall bytes m .reply .answer ≡ 0 → length bytes ≤ length output →
+    let c = readCall bytes m in
+    let w = writeCall (c .reply .header) (record { edges = c .memory .edges; index = []; work = []; output = output }) in
+    (w .reply ≡ Length (length bytes)) × (w .memory .output ≡ bytes ++ drop (length bytes) output)
+writing bytes output m small e long =
+    let c = read-said bytes m small e in
+    let b = writes-back bytes output m small c long in
+    rw (c .is) (b .reply, b .output-is)
 
 pub demand2 : Demand2
 demand2 =

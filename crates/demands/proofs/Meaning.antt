@@ -1,9 +1,9 @@
 -- The definitions that compute mean what document 01 says.
-use mathlib.Core.Path.{_≡_, refl, sym, ap, _∙_}
+use mathlib.Core.Path.{_≡_, sym, _∙_}
 use mathlib.Core.Logic.{_↔_}
 use mathlib.Core.Bool.{Bool, true}
 use mathlib.Core.List.{List, [], _∷_}
-use Prim.Native.Nat.{ℕ, _≤_, _<_}
+use Prim.Native.Nat.{ℕ}
 use native.Mathlib.Omega.{arith}
 use lib.Dec.{leb}
 use lib.ListN.{length}
@@ -23,6 +23,7 @@ use Rattle.model.proofs.Query.{test-answers}
 use Rattle.model.proofs.Codes.{test-code}
 use Rattle.model.proofs.Memories.{test-edge-memory, test-index-memory}
 use Rattle.calls.specs.Checks.{vertices?, longest?, ends?, Check}
+use Rattle.calls.specs.Call.{Header, graphOf, Memory}
 use Rattle.calls.specs.Search.{searchRefusal, searchCall}
 use Rattle.calls.proofs.Checks.{header-good, bounded, test-ends}
 use Rattle.calls.proofs.Passing.{passing}
@@ -46,32 +47,28 @@ graph-meaning g b =
       codes = λ number below. exactly (test-code (g .longest) number (b .longest-most) below);
     }
 
-searches : (vertices longest start destination : ℕ) (pattern : List ℕ) (limit : ℕ) (edges work : List ℕ)
-    → searchRefusal vertices longest start destination pattern edges work ≡ 0
-    → Replies (record { vertices = vertices; longest = longest; edges = standing edges }) (minRepeat pattern) start destination limit
-    (searchCall vertices longest start destination pattern limit edges work .reply)
+searches : (h : Header) (start destination : ℕ) (pattern : List ℕ) (limit : ℕ) (m : Memory) → searchRefusal h start destination pattern m ≡ 0
+    → Replies (graphOf h (standing (m .edges))) (minRepeat pattern) start destination limit (searchCall h start destination pattern limit m .reply)
 unfolding searchCall
-searches vertices longest start destination pattern limit edges work e =
+searches h start destination pattern limit m e =
     let (v, (k, (_, (_, (ends, (keyed, _)))))) = passing checks tt (unfold searchRefusal in e) in
-    let b : Bounds vertices longest = bounded v k in
-    let (hs, ht) = test-yields (test-ends vertices start destination) ends in
-    let p = folded (test-yields (test-keyed longest pattern) keyed) .keyed in
+    let b : Bounds (h .vertices) (h .longest) = bounded v k in
+    let (hs, ht) = test-yields (test-ends (h .vertices) start destination) ends in
+    let p = folded (test-yields (test-keyed (h .longest) pattern) keyed) .keyed in
+    let g = graphOf h (standing (m .edges)) in
     rw e (record {
       told = told g (minRepeat pattern) start destination limit;
       decides = λ enough. decides g (minRepeat pattern) start destination (b .vertices-most) (p .long) hs ht limit enough (omega (arith, p .short, b .longest-most));
     })
   where
-    g : Graph
-    g = record { vertices = vertices; longest = longest; edges = standing edges }
-
     checks : List Check
     checks =
-        (1, vertices? vertices)
-        ∷ (2, longest? longest)
-        ∷ (3, edgeMemory? vertices edges)
-        ∷ (4, leb leastWork (length work))
-        ∷ (10, ends? vertices start destination)
-        ∷ (11, keyed? longest pattern)
+        (1, vertices? (h .vertices))
+        ∷ (2, longest? (h .longest))
+        ∷ (3, edgeMemory? (h .vertices) (m .edges))
+        ∷ (4, leb leastWork (length (m .work)))
+        ∷ (10, ends? (h .vertices) start destination)
+        ∷ (11, keyed? (h .longest) pattern)
         ∷ []
 
 pub meaning : Meaning

@@ -15,12 +15,13 @@ use Rattle.model.specs.Entries.{IsEntry, determined}
 use Rattle.model.proofs.Tests.{test-yields, test-le}
 use Rattle.model.proofs.Entries.{entries-out}
 use Rattle.calls.specs.Checks.{Check, vertices?, longest?, firstRefusal}
-use Rattle.calls.specs.Change.{Header, back, Change, openRefusal, openCall}
+use Rattle.calls.specs.Call.{Header, lent, Outcome}
+use Rattle.calls.specs.Change.{Returned, openRefusal, openCall}
 use Rattle.calls.proofs.Checks.{test-vertices, test-longest}
 use Rattle.calls.proofs.Settling.{Result, with-number}
 use Rattle.calls.proofs.Passing.{passing}
 use Rattle.demands.specs.Ledger.{Book, opening, rising, bookEntries, shows, openingNumber, turn}
-use Rattle.demands.specs.Station.{Call, Station, memoryOf, fedBy, replyOf}
+use Rattle.demands.specs.Station.{Call, Station, memoryOf, fedBy, replyTo}
 use Rattle.demands.proofs.Rising.{rising-out}
 use Rattle.demands.proofs.Numbers.{Gives, gives-none, chain, above-not, outside-not}
 use Rattle.demands.proofs.Steps.{stationOf, Fine, edge-slots, index-slots, Reaches, Matches, matches, begins, first-reply}
@@ -64,13 +65,8 @@ module _ (h : Header) where
   abbrev fresh : Book
   fresh = record { vertices = h .vertices; longest = h .longest; edges = [] }
 
-  abbrev done : Station → Change
-  done s =
-      record {
-        handed = back h;
-        answer = 0;
-        memory = record { edges = zeroed (s .edges); index = zeroed (s .index); work = [] };
-      }
+  abbrev done : Station → Outcome Returned
+  done s = record { reply = record { header = h; answer = 0 }; memory = lent (zeroed (s .edges)) (zeroed (s .index)) [] }
 
   module _ (work : List ℕ) (s : Station) {slots room : ℕ} (wide : length (s .edges) ≡ slots) (long : length (s .index) ≡ room) where
     abbrev openChecks : List Check
@@ -94,8 +90,7 @@ module _ (h : Header) where
         let empty : bookEntries fresh ≡ [] = no-entries (record { vertices = h .vertices; longest = h .longest; edges = rising [] }) rising-none
         (record { vertices-small = b; longest-small = d }) in
         record {
-          answer = refl;
-          handed = refl;
+          reply = refl;
           edges = rw (rising-none, wide) (blank-filled slots);
           index = rw (empty, long) (blank-filled room);
           fine = record {
@@ -107,26 +102,26 @@ module _ (h : Header) where
           };
         }
 
-    open-result : Result (openCall h (memoryOf s [])) (back h) (memoryOf s []) (done s) (firstRefusal openChecks)
+    open-result : Result (openCall h (memoryOf s [])) h (memoryOf s []) (done s) (firstRefusal openChecks)
     unfolding openCall openRefusal
-    open-result = with-number (firstRefusal openChecks) (back h) (memoryOf s []) (done s)
+    open-result = with-number (firstRefusal openChecks) h (memoryOf s []) (done s)
 
     pub open-begins : (b : Book) → openingNumber (h .vertices) (h .longest) (fedBy slots room (opens work)) ≡ 0
-        → Matches slots room s (openCall h (memoryOf s [])) (turn b (fedBy slots room (opens work)))
+        → Matches slots room s (opens work .given) (openCall h (memoryOf s [])) (turn b (fedBy slots room (opens work)))
     unfolding turn
     open-begins b e =
         let z : firstRefusal openChecks ≡ 0 = open-gives .is ∙ e in
-        rw (sym (open-gives .is)) (begins b fresh (shows (h .vertices) (h .longest)) open-result z (open-reaches z))
+        rw (sym (open-gives .is)) (begins b fresh (opens work .given) h (shows (h .vertices) (h .longest)) (λ n. refl) open-result z (open-reaches z))
 
-    pub open-first : (b : Book) → replyOf (openCall h (memoryOf s [])) ≡ turn b (fedBy slots room (opens work)) .reply
+    pub open-first : (b : Book) → replyTo (opens work .given) (openCall h (memoryOf s []) .reply) ≡ turn b (fedBy slots room (opens work)) .reply
     unfolding turn
-    open-first b = rw (sym (open-gives .is)) (first-reply b fresh (firstRefusal openChecks) s (back h) open-result open-reaches)
+    open-first b = rw (sym (open-gives .is)) (first-reply b fresh (opens work .given) h (shows (h .vertices) (h .longest)) (λ n. refl) (firstRefusal openChecks) s open-result open-reaches)
 
   pub open-matches : (work : List ℕ) {slots room : ℕ} {b : Book} → Fine slots room b
-      → Matches slots room (stationOf slots room b) (openCall h (memoryOf (stationOf slots room b) [])) (turn b (fedBy slots room (opens work)))
+      → Matches slots room (stationOf slots room b) (opens work .given) (openCall h (memoryOf (stationOf slots room b) [])) (turn b (fedBy slots room (opens work)))
   unfolding turn
   open-matches work {slots} {room} {b} f =
       let s = stationOf slots room b in
       rw (sym (open-gives work s (edge-slots f) (index-slots f) .is))
-      (matches b fresh (firstRefusal (openChecks work s (edge-slots f) (index-slots f))) (back h) (open-result work s (edge-slots f) (index-slots f)) f
+      (matches b fresh (opens work .given) h (shows (h .vertices) (h .longest)) (λ n. refl) (firstRefusal (openChecks work s (edge-slots f) (index-slots f))) (open-result work s (edge-slots f) (index-slots f)) f
       (open-reaches work s (edge-slots f) (index-slots f)))

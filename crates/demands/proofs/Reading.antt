@@ -11,8 +11,9 @@ use Rattle.model.specs.Limits.{mostEdges, headBytes}
 use Rattle.model.specs.Edges.{Bounds, edge?}
 use Rattle.model.proofs.Tests.{test-yields, test-le}
 use Rattle.calls.specs.Checks.{Check}
-use Rattle.calls.specs.Change.{Memory, none as no-record, buildRoom?, fits?}
-use Rattle.calls.specs.Card.{headerOf, countOf, edgesOf, cardChecks, cardRefusal, readRefusal, readCall}
+use Rattle.calls.specs.Call.{Memory}
+use Rattle.calls.specs.Change.{buildRoom?, fits?}
+use Rattle.calls.specs.Card.{headerOf, countOf, edgesOf, cardChecks, cardRefusal, readRefusal, noRecord, readCall}
 use Rattle.calls.proofs.Checks.{none, pass}
 use Rattle.calls.proofs.Settling.{settledChange, settled, accepted-zero}
 use Rattle.calls.proofs.Passing.{passing}
@@ -28,10 +29,10 @@ pub record Said (card : List ℕ) (m : Memory) : Type 0 where
   pub rising : Rising (edgesOf (drop headBytes card))
   pub valid : (x : ℕ) → x ∈ edgesOf (drop headBytes card) → edge? (headerOf card .vertices) x ≡ true
 
-pub read-said : (card : List ℕ) (m : Memory) → Bytes card → readCall card m .answer ≡ 0 → Said card m
+pub read-said : (card : List ℕ) (m : Memory) → Bytes card → readCall card m .reply .answer ≡ 0 → Said card m
 unfolding readCall readRefusal
 read-said card m bytes e =
-    let r = settled no-record (headerOf card) wanted m checks tt in
+    let r = settled noRecord (headerOf card) wanted m checks tt in
     let q = accepted-zero _ r e in
     let (a, (b, (c, (d, (few, (nine, _)))))) = passing (checks ++ last) tt q in
     let own : cardRefusal card ≡ 0 = card-is card (pass a (pass b (pass c (pass d none)))) in

@@ -1,12 +1,12 @@
 -- Demand 2 (d): a card is read as if a fresh layout had received its edges. By the ledger: the opening and each insertion are accepted, and in
 -- the end it holds the card's edges.
-use mathlib.Core.Path.{_≡_, refl, sym, ap, _∙_}
+use mathlib.Core.Path.{_≡_, refl, sym, _∙_}
 use mathlib.Core.Logic.{⊎-elim}
-use mathlib.Core.Bool.{Bool, false, _||_}
+use mathlib.Core.Bool.{Bool, false}
 use mathlib.Core.List.{List, [], _∷_, _++_, map, append-assoc, append-nil, List·Memᴰ, List·Memᴰ·head, List·Memᴰ·tail, List·Memᴰ·cases-cons, List·Memᴰ·not-nil, List·Memᴰ·append-cases, List·Memᴰ·eq-of-singleton, Memᴰ·append-left, Memᴰ·append-right}
 use Prim.Native.Nat.{ℕ, _+_, _*_, _≤_, _<_}
 use native.Mathlib.Omega.{arith}
-use lib.Dec.{leb, ltb}
+use lib.Dec.{ltb}
 use lib.ListN.{length, take}
 use lib.Seq.{take-append-seam}
 use Rattle.model.specs.Lists.{_∈_, mem?, next, Rising, Bytes}
@@ -16,7 +16,7 @@ use Rattle.model.proofs.Tests.{test-false, test-yields, test-or, test-lt, test-
 use Rattle.model.proofs.Edges.{IsEdge, test-edge}
 use Rattle.model.proofs.Lists.{sorted-imp}
 use Rattle.model.proofs.Counting.{no-more, rising-same}
-use Rattle.demands.specs.Ledger.{Given, opening, insertion, card, Fed, Book, rising, bookEntries, when, outside, narrow, full, openingNumber, namedNumber, inserted, insertionNumber, cardBook, shows, Reply, Turn, turn, Account, ledger}
+use Rattle.demands.specs.Ledger.{opening, insertion, card, Fed, Book, rising, bookEntries, when, outside, full, openingNumber, namedNumber, inserted, insertionNumber, cardBook, shows, Reply, Turn, turn, Account, ledger}
 use Rattle.calls.proofs.Card.{card-good}
 use Rattle.demands.specs.Station.{Call, Station, memoryOf, changeOn, after, fedBy}
 use Rattle.demands.specs.Demand3.{blank, by-opening, by-card}
@@ -175,7 +175,7 @@ module _ {slots room : ℕ} {b : Book} (fine : Fine slots room b) (rises : Risin
   station-same same = rw (same-rising (λ z k. k) same) refl
 
 pub receiving-same : (s : Station) (bytes : List ℕ) (small : Bytes bytes) (work : List ℕ) (works : ℕ → List ℕ)
-    → changeOn s work (card bytes small) .answer ≡ 0 → Suffices (cardBook bytes) (length (s .index)) works
+    → changeOn s work (card bytes small) .reply .answer ≡ 0 → Suffices (cardBook bytes) (length (s .index)) works
     → Receives s (receiving (cardBook bytes) works) (after s (changeOn s work (card bytes small)))
 receiving-same s bytes small work works e enough =
     let slots = length (s .edges) in

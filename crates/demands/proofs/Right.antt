@@ -20,12 +20,12 @@ use Rattle.model.proofs.Patterns.{test-keyed}
 use Rattle.model.proofs.Memory.{edge-least, standing-filled, standing-some, standing-zeroed}
 use Rattle.model.proofs.Insertion.{member-insert, member-left}
 use Rattle.calls.specs.Checks.{vertices?, longest?, ends?, Check, firstRefusal}
-use Rattle.calls.specs.Change.{Header, graphOf, Memory, Handed, back, Change, changeChecks, changeRefusal, openRefusal, openCall, insertRefusal, insertCall, removeRefusal, removeCall}
+use Rattle.calls.specs.Call.{Header, graphOf, Memory, lent, Outcome}
+use Rattle.calls.specs.Change.{Returned, changeChecks, changeRefusal, openRefusal, openCall, insertRefusal, insertCall, removeRefusal, removeCall}
 use Rattle.calls.specs.Card.{headerOf, readCall}
-use Rattle.calls.specs.Query.{queryRefusal, queryCall}
+use Rattle.calls.specs.Query.{saying, queryRefusal, queryCall}
 use Rattle.calls.proofs.Checks.{First, none, pass, stop, first-is, bounded, bounds-pass, test-ends}
 use Rattle.calls.proofs.Change.{Good, change-good, front-passes}
-use Rattle.calls.proofs.Query.{query-accepted}
 use Rattle.calls.proofs.Settling.{settledChange, Result, settled, with-number, accepted-zero}
 use Rattle.calls.proofs.Passing.{passing}
 use Rattle.demands.specs.Ledger.{Given, opening, insertion, removal, card}
@@ -38,10 +38,16 @@ use Rattle.demands.proofs.Reading.{read-said}
 not-both : ¬ (false ≡ true)
 not-both e = test-fails (test-T true) (sym e) tt
 
-number-refuses : (vertices longest start destination : ℕ) (pattern index : List ℕ) {n : ℕ}
-    → queryRefusal vertices longest start destination pattern index ≡ suc n → queryCall vertices longest start destination pattern index ≡ Refused (suc n)
+number-refuses : (h : Header) (start destination : ℕ) (pattern : List ℕ) (m : Memory) {n : ℕ}
+    → queryRefusal h start destination pattern m ≡ suc n → queryCall h start destination pattern m .reply ≡ Refused (suc n)
 unfolding queryCall
-number-refuses vertices longest start destination pattern index e = rw e refl
+number-refuses h start destination pattern m e = rw e refl
+
+-- y is the answer found
+answered : (h : Header) (start destination : ℕ) (pattern : List ℕ) (m : Memory) (y : Bool) → queryRefusal h start destination pattern m ≡ 0
+    → answers? (h .vertices) (m .index) (minRepeat pattern) start destination ≡ y → queryCall h start destination pattern m .reply ≡ saying y
+unfolding queryCall
+answered h start destination pattern m y e q = rw (e, q) refl
 
 -- ---- the entries that a graph determines, in index memory of so many slots
 
@@ -49,43 +55,49 @@ module _ (g : Graph) (bounds : Bounds (g .vertices) (g .longest)) (slots : ℕ) 
   abbrev index : List ℕ
   index = filled slots (determined g)
 
+  abbrev h : Header
+  h = record { vertices = g .vertices; longest = g .longest }
+
+  abbrev m : Memory
+  m = lent [] index []
+
   small : Small g
   small = record { vertices-small = bounds .vertices-most; longest-small = bounds .longest-most }
 
   -- the record passes 1 and 2
   after-header : (s t : ℕ) (l : List ℕ) {n : ℕ}
       → First ((10, ends? (g .vertices) s t) ∷ (11, keyed? (g .longest) l) ∷ (12, indexMemory? (g .vertices) (g .longest) index) ∷ []) n
-      → queryRefusal (g .vertices) (g .longest) s t l index ≡ n
+      → queryRefusal h s t l m ≡ n
   unfolding queryRefusal
   after-header s t l f = first-is (bounds-pass bounds f)
 
-  pub right : Right (record { vertices = g .vertices; longest = g .longest }) index g
+  pub right : Right h index g
   unfolding determined
   right =
       record {
         replies = λ s t l hs ht k. ask s t l hs ht k (answers? (g .vertices) index (minRepeat l) s t) refl;
-        ends = λ s t l d. number-refuses (g .vertices) (g .longest) s t l index (after-header s t l (stop (test-false (test-ends (g .vertices) s t) d)));
+        ends = λ s t l d. number-refuses h s t l m (after-header s t l (stop (test-false (test-ends (g .vertices) s t) d)));
         patterns = λ s t l hs ht d.
-            number-refuses (g .vertices) (g .longest) s t l index
+            number-refuses h s t l m
             (after-header s t l (pass (test-true (test-ends (g .vertices) s t) (hs, ht)) (stop (test-false (test-keyed (g .longest) l) d))));
       }
     where
-      passes : (s t : ℕ) (l : List ℕ) → s < g .vertices → t < g .vertices → Keyed (g .longest) l → queryRefusal (g .vertices) (g .longest) s t l index ≡ 0
+      passes : (s t : ℕ) (l : List ℕ) → s < g .vertices → t < g .vertices → Keyed (g .longest) l → queryRefusal h s t l m ≡ 0
       passes s t l hs ht k =
           after-header s t l (pass (test-true (test-ends (g .vertices) s t) (hs, ht))
           (pass (test-true (test-keyed (g .longest) l) k) (pass (whole-passes g (counted g) small slots) none)))
 
       ask : (s t : ℕ) (l : List ℕ) → s < g .vertices → t < g .vertices → Keyed (g .longest) l → (y : Bool) → answers? (g .vertices) index (minRepeat l) s t ≡ y
-          → ((queryCall (g .vertices) (g .longest) s t l index ≡ Yes) × Runs g (minRepeat l) s t)
-          ⊎ ((queryCall (g .vertices) (g .longest) s t l index ≡ No) × (¬ Runs g (minRepeat l) s t))
+          → ((queryCall h s t l m .reply ≡ Yes) × Runs g (minRepeat l) s t)
+          ⊎ ((queryCall h s t l m .reply ≡ No) × (¬ Runs g (minRepeat l) s t))
       ask s t l hs ht k true e =
           inl (
-            sym (query-accepted (g .vertices) (g .longest) s t l index true (passes s t l hs ht k) (sym e)),
+            answered h s t l m true (passes s t l hs ht k) e,
             answer-right g (counted g) small slots hs ht k .0 e,
           )
       ask s t l hs ht k false e =
           inr (
-            sym (query-accepted (g .vertices) (g .longest) s t l index false (passes s t l hs ht k) (sym e)),
+            answered h s t l m false (passes s t l hs ht k) e,
             λ r. not-both (sym e ∙ answer-right g (counted g) small slots hs ht k .1 r),
           )
 
@@ -98,17 +110,17 @@ settled-right h wanted m bounds some =
     subst (λ (l : List ℕ). Right h (filled (length (m .index)) (determined (graphOf h wanted))) (graphOf h l))
     (sym (standing-filled (length (m .edges)) wanted some)) (right (graphOf h wanted) bounds (length (m .index)))
 
-accepted-right : {c : Change} {given : Handed} {h : Header} {wanted : List ℕ} {m : Memory} (n : ℕ) → Result c given m (settledChange h wanted m) n
-    → c .answer ≡ 0 → (n ≡ 0 → Bounds (h .vertices) (h .longest) × ((x : ℕ) → x ∈ wanted → 1 ≤ x)) → RightAfter c
+accepted-right : {c : Outcome Returned} {given h : Header} {wanted : List ℕ} {m : Memory} (n : ℕ) → Result c given m (settledChange h wanted m) n
+    → c .reply .answer ≡ 0 → (n ≡ 0 → Bounds (h .vertices) (h .longest) × ((x : ℕ) → x ∈ wanted → 1 ≤ x)) → RightAfter c
 accepted-right {h = h} {wanted = wanted} {m = m} n r e f =
     let z = accepted-zero n r e in
     let (bounds, some) = f z in
     subst RightAfter (sym (r .accepted z)) (settled-right h wanted m bounds some)
 
-open-right : (h : Header) (m : Memory) → openCall h m .answer ≡ 0 → RightAfter (openCall h m)
+open-right : (h : Header) (m : Memory) → openCall h m .reply .answer ≡ 0 → RightAfter (openCall h m)
 unfolding openCall openRefusal
 open-right h m e =
-    let r = with-number (firstRefusal checks) (back h) m done in
+    let r = with-number (firstRefusal checks) h m done in
     let z = accepted-zero (firstRefusal checks) r e in
     let (v, (k, _)) = passing checks tt z in
     subst RightAfter (sym (r .accepted z)) (fresh (bounded v k))
@@ -116,8 +128,12 @@ open-right h m e =
     checks : List Check
     checks = (1, vertices? (h .vertices)) ∷ (2, longest? (h .longest)) ∷ (3, leb (length (m .edges)) mostEdges) ∷ []
 
-    done : Change
-    done = record { handed = back h; answer = 0; memory = record { edges = zeroed (m .edges); index = zeroed (m .index); work = m .work } }
+    done : Outcome Returned
+    done =
+        record {
+          reply = record { header = h; answer = 0 };
+          memory = record { edges = zeroed (m .edges); index = zeroed (m .index); work = m .work; output = m .output };
+        }
 
     fresh : Bounds (h .vertices) (h .longest) → RightAfter done
     fresh b =
@@ -136,29 +152,29 @@ module _ (h : Header) (from label to : ℕ) (m : Memory) where
   unfolding changeRefusal
   begun later z = change-good h from label to m (front-passes (changeChecks h from label to m) later z)
 
-  insert-right : insertCall h from label to m .answer ≡ 0 → RightAfter (insertCall h from label to m)
+  insert-right : insertCall h from label to m .reply .answer ≡ 0 → RightAfter (insertCall h from label to m)
   unfolding insertCall insertRefusal
   insert-right e =
-      accepted-right _ (settled (back h) h (insertEdge x (standing (m .edges))) m _ tt) e (λ z.
+      accepted-right _ (settled h h (insertEdge x (standing (m .edges))) m _ tt) e (λ z.
       let g = begun _ z in
       (g .header, λ y k. ⊎-elim (λ q. omega (arith, q, g .label-least)) (λ j. standing-some (m .edges) j) (member-insert x (standing (m .edges)) y .0 k)))
 
-  remove-right : removeCall h from label to m .answer ≡ 0 → RightAfter (removeCall h from label to m)
+  remove-right : removeCall h from label to m .reply .answer ≡ 0 → RightAfter (removeCall h from label to m)
   unfolding removeCall removeRefusal
   remove-right e =
-      accepted-right _ (settled (back h) h (removeEdge x (standing (m .edges))) m _ tt) e (λ z.
+      accepted-right _ (settled h h (removeEdge x (standing (m .edges))) m _ tt) e (λ z.
       (begun _ z .header, λ y k. standing-some (m .edges) (member-left x (standing (m .edges)) k)))
 
-read-right : (bytes : List ℕ) → Bytes bytes → (m : Memory) → readCall bytes m .answer ≡ 0 → RightAfter (readCall bytes m)
+read-right : (bytes : List ℕ) → Bytes bytes → (m : Memory) → readCall bytes m .reply .answer ≡ 0 → RightAfter (readCall bytes m)
 read-right bytes small m e =
     let c = read-said bytes m small e in
     subst RightAfter (sym (c .is)) (settled-right _ _ m (c .bounds) (λ x k. omega (arith, edge-least (headerOf bytes .vertices) x (c .valid x k))))
 
 -- each changing call, on any record and memory
-pub changes-right : (s : Station) (c : Call) → change s c .answer ≡ 0 → RightAfter (change s c)
+pub changes-right : (s : Station) (c : Call) → change s c .reply .answer ≡ 0 → RightAfter (change s c)
 changes-right s c e = on (c .given) e
   where
-    on : (given : Given) → changeOn s (c .work) given .answer ≡ 0 → RightAfter (changeOn s (c .work) given)
+    on : (given : Given) → changeOn s (c .work) given .reply .answer ≡ 0 → RightAfter (changeOn s (c .work) given)
     on (opening vertices longest) e = open-right (record { vertices = vertices; longest = longest }) (memoryOf s []) e
     on (insertion from label to) e = insert-right (s .header) from label to (memoryOf s (c .work)) e
     on (removal from label to) e = remove-right (s .header) from label to (memoryOf s (c .work)) e

@@ -11,7 +11,8 @@ use Rattle.model.specs.Patterns.{Keyed, minRepeat}
 use Rattle.model.specs.Walks.{Runs}
 use Rattle.model.specs.Entries.{determined}
 use Rattle.model.specs.Query.{Yes, No, Refused}
-use Rattle.calls.specs.Change.{Header, graphOf, Memory, back, Change, numbersOf}
+use Rattle.calls.specs.Call.{Header, graphOf, Memory, lent, Outcome}
+use Rattle.calls.specs.Change.{Returned}
 use Rattle.calls.specs.Card.{readCall, Length, writeCall}
 use Rattle.calls.specs.Query.{queryCall}
 use Rattle.demands.specs.Ledger.{Book, opening, insertion, card, bookEntries, cardBook, ruling, Reply, ledger}
@@ -22,23 +23,22 @@ use Rattle.demands.specs.Demand3.{blank, Begins, standingGraph}
 pub record Right (h : Header) (index : List ℕ) (g : Graph) : Type 0 where
   -- yes exactly when some walk spells the pattern's minimum repeat one or more whole times, else no
   pub replies : (start destination : ℕ) (pattern : List ℕ) → start < g .vertices → destination < g .vertices → Keyed (g .longest) pattern
-      → ((queryCall (h .vertices) (h .longest) start destination pattern index ≡ Yes) × Runs g (minRepeat pattern) start destination)
-      ⊎ ((queryCall (h .vertices) (h .longest) start destination pattern index ≡ No) × (¬ Runs g (minRepeat pattern) start destination))
+      → ((queryCall h start destination pattern (lent [] index []) .reply ≡ Yes) × Runs g (minRepeat pattern) start destination)
+      ⊎ ((queryCall h start destination pattern (lent [] index []) .reply ≡ No) × (¬ Runs g (minRepeat pattern) start destination))
   -- every other question is refused
   pub ends : (start destination : ℕ) (pattern : List ℕ) → ¬ ((start < g .vertices) × (destination < g .vertices))
-      → queryCall (h .vertices) (h .longest) start destination pattern index ≡ Refused 10
+      → queryCall h start destination pattern (lent [] index []) .reply ≡ Refused 10
   pub patterns : (start destination : ℕ) (pattern : List ℕ) → start < g .vertices → destination < g .vertices → ¬ Keyed (g .longest) pattern
-      → queryCall (h .vertices) (h .longest) start destination pattern index ≡ Refused 11
+      → queryCall h start destination pattern (lent [] index []) .reply ≡ Refused 11
 
 -- put with the record that a change handed back and the index memory that it left, to the edges that stand in the edge memory that it left
-abbrev pub RightAfter : Change → Type 0
-RightAfter c =
-    let h = numbersOf (c .handed) in Right h (c .memory .index) (graphOf h (standing (c .memory .edges)))
+abbrev pub RightAfter : Outcome Returned → Type 0
+RightAfter c = Right (c .reply .header) (c .memory .index) (graphOf (c .reply .header) (standing (c .memory .edges)))
 
 -- (b) what reading gives of a card that was written
-pub record Restores (h : Header) (edges : List ℕ) (m : Memory) (c : Change) : Type 0 where
-  pub accepted : c .answer ≡ 0
-  pub header : c .handed ≡ back h
+pub record Restores (h : Header) (edges : List ℕ) (m : Memory) (c : Outcome Returned) : Type 0 where
+  pub accepted : c .reply .answer ≡ 0
+  pub header : c .reply .header ≡ h
   pub edges-back : c .memory .edges ≡ filled (length (m .edges)) (standing edges)
   pub index-back : c .memory .index ≡ filled (length (m .index)) (determined (graphOf h (standing edges)))
 
@@ -67,20 +67,21 @@ pub record Receives (s : Station) (calls : List Call) (end : Station) : Type 0 w
 
 pub record Demand2 : Type 0 where
   -- after each accepted change, whatever record and memory it was given
-  pub changes : (s : Station) (c : Call) → change s c .answer ≡ 0 → RightAfter (change s c)
+  pub changes : (s : Station) (c : Call) → change s c .reply .answer ≡ 0 → RightAfter (change s c)
   -- so after any list of calls as in demand 3, refused ones included
   pub questions : (s : Station) (first : Call) (more : List Call) → Begins (first .given)
       → ruling blank (fedBy (length (s .edges)) (length (s .index)) first) .number ≡ 0 →
       let end = run s (first ∷ more) .station in Right (end .header) (end .index) (standingGraph (ledger blank (fedAll s (first ∷ more)) .book))
   -- a card that was written, read again
-  pub reading : (h : Header) (edges output : List ℕ) (n : ℕ) (m : Memory) → writeCall h edges output .reply ≡ Length n
-      → Roomy m (length (standing edges)) (length (determined (graphOf h (standing edges))))
-      → Restores h edges m (readCall (take n (writeCall h edges output .output)) m)
+  pub reading : (h : Header) (w : Memory) (n : ℕ) (m : Memory) → writeCall h w .reply ≡ Length n
+      → Roomy m (length (standing (w .edges))) (length (determined (graphOf h (standing (w .edges)))))
+      → Restores h (w .edges) m (readCall (take n (writeCall h w .memory .output)) m)
   -- (c) a card that was read, written again: its length, its bytes, and the rest of the output untouched
-  pub writing : (bytes output : List ℕ) (m : Memory) → Bytes bytes → readCall bytes m .answer ≡ 0 → length bytes ≤ length output →
+  pub writing : (bytes output : List ℕ) (m : Memory) → Bytes bytes → readCall bytes m .reply .answer ≡ 0 → length bytes ≤ length output →
       let c = readCall bytes m in
-      writeCall (numbersOf (c .handed)) (c .memory .edges) output ≡ record { reply = Length (length bytes); output = bytes ++ drop (length bytes) output }
+      let w = writeCall (c .reply .header) (record { edges = c .memory .edges; index = []; work = []; output = output }) in
+      (w .reply ≡ Length (length bytes)) × (w .memory .output ≡ bytes ++ drop (length bytes) output)
   -- "Reading a card fills leg and index memory as if a fresh layout had received those legs"
   pub receiving-same : (s : Station) (bytes : List ℕ) (small : Bytes bytes) (work : List ℕ) (works : ℕ → List ℕ) →
       let c = changeOn s work (card bytes small) in
-      c .answer ≡ 0 → Suffices (cardBook bytes) (length (s .index)) works → Receives s (receiving (cardBook bytes) works) (after s c)
+      c .reply .answer ≡ 0 → Suffices (cardBook bytes) (length (s .index)) works → Receives s (receiving (cardBook bytes) works) (after s c)

@@ -11,7 +11,7 @@ use Rattle.model.specs.Edges.{Graph}
 use Rattle.model.specs.Patterns.{Pattern}
 use Rattle.model.specs.Walks.{Runs}
 use Rattle.model.specs.Query.{No}
-use Rattle.calls.specs.Change.{Header}
+use Rattle.calls.specs.Call.{Header, lent}
 use Rattle.calls.specs.Query.{queryCall}
 use Rattle.demands.specs.Ledger.{Book, rising, bookEntries, Given, opening, card, ruling, Account, ledger}
 use Rattle.demands.specs.Station.{Call, Station, run, fedBy, fedAll}
@@ -37,7 +37,7 @@ pub record Missed (h : Header) (b : Book) (index : List ℕ) : Type 0 where
   pub pattern : List ℕ
   pub own : Pattern (b .longest) pattern
   pub runs : Runs (standingGraph b) pattern start destination
-  pub answered : queryCall (h .vertices) (h .longest) start destination pattern index ≡ No
+  pub answered : queryCall h start destination pattern (lent [] index []) .reply ≡ No
 
 pub record Demand3 (s : Station) (calls : List Call) : Type 0 where
   -- what the ledger comes to

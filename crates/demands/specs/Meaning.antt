@@ -16,6 +16,7 @@ use Rattle.model.specs.Levels.{state, level, Reached, Reply, Told, Decides}
 use Rattle.model.specs.Entries.{IsEntry, determined}
 use Rattle.model.specs.Query.{code?, Coded, OfEntry, indexMemory?, Answers, answers?}
 use Rattle.calls.specs.Checks.{headerRefusal}
+use Rattle.calls.specs.Call.{Header, graphOf, Memory}
 use Rattle.calls.specs.Search.{searchRefusal, searchCall}
 
 -- what an accepted plain check (level search) replies
@@ -56,7 +57,5 @@ pub record Meaning : Type 0 where
   pub level-zero : (g : Graph) (l : List ℕ) (s z : ℕ) → (z ∈ level g l s 0) ↔ (z ≡ state s 0)
   pub level-next : (g : Graph) (l : List ℕ) (s i z : ℕ) → (z ∈ level g l s (suc i)) ↔ Reached g l s i z
   -- the plain check, as the call replies
-  pub searches : (vertices longest start destination : ℕ) (pattern : List ℕ) (limit : ℕ) (edges work : List ℕ)
-      → searchRefusal vertices longest start destination pattern edges work ≡ 0
-      → Replies (record { vertices = vertices; longest = longest; edges = standing edges }) (minRepeat pattern) start destination limit
-      (searchCall vertices longest start destination pattern limit edges work .reply)
+  pub searches : (h : Header) (start destination : ℕ) (pattern : List ℕ) (limit : ℕ) (m : Memory) → searchRefusal h start destination pattern m ≡ 0
+      → Replies (graphOf h (standing (m .edges))) (minRepeat pattern) start destination limit (searchCall h start destination pattern limit m .reply)

@@ -9,8 +9,8 @@ use native.Mathlib.Omega.{arith}
 use native.Mathlib.Decide.{decLt}
 use lib.ListN.{length, getD}
 use Rattle.model.specs.Limits.{mostVertices}
-use Rattle.model.specs.Levels.{usedOf, vertexOf, Leads}
-use Rattle.model.proofs.Lists.{getD-in, in-getD, Index}
+use Rattle.model.specs.Levels.{Leads}
+use Rattle.model.proofs.Lists.{getD-in, in-getD}
 use Rattle.level_search.specs.Work.{Ahead, Grown, Next, Short, queue}
 use Rattle.level_search.proofs.Grow.{grown-none, grown-then, grown-as}
 

@@ -1,24 +1,22 @@
 -- Work memory stands at level c: the queue from lo up to hi is level c, and the marks are levels 1 to c. So it stands at the start, and
 -- after each level that is built; and how the reply goes on from there.
-use mathlib.Core.Path.{_≡_, refl, sym, ap, _∙_, subst}
-use mathlib.Core.Bool.{Bool, true}
+use mathlib.Core.Path.{_≡_, sym, ap, _∙_, subst}
 use mathlib.Core.List.{List}
-use mathlib.Core.Logic.{_⊎_, inl, inr, ⊎-elim}
-use Prim.Native.Nat.{ℕ, zero, suc, _+_, _-_, _*_, _/_, _%_, _≤_, _<_, zero-le}
+use mathlib.Core.Logic.{⊎-elim}
+use Prim.Native.Nat.{ℕ, suc, _+_, _-_, _/_, _≤_, _<_, zero-le}
 use native.Mathlib.Nat.{le-refl, eq-or-lt-of-le, le-of-suc-le-suc, sub-zero}
 use native.Mathlib.Numerals.{add-one}
 use native.Mathlib.Omega.{arith}
-use lib.Dec.{T}
-use lib.ListN.{length, getD, set, replicate, length-set, length-replicate, getD-replicate}
+use lib.ListN.{getD, set, replicate, length-set, length-replicate, getD-replicate}
 use lib.Seq.{getD-set-same, getD-set-other}
 use Rattle.model.specs.Lists.{_∈_}
 use Rattle.model.specs.Limits.{mostVertices, leastWork}
-use Rattle.model.specs.Edges.{bare, edge?, toOf}
-use Rattle.model.specs.Levels.{IsState, Fresh, Reached, vertexOf, mostStates, Leads, stage, level, Reply, Yes, No, Spent, replyFrom, levelReply}
+use Rattle.model.specs.Edges.{bare}
+use Rattle.model.specs.Levels.{IsState, Fresh, Reached, vertexOf, mostStates, Leads, stage, level, Yes, No, Spent, replyFrom, levelReply}
 use Rattle.model.proofs.Levels.{Met, look, level-zero, level-iff}
 use Rattle.model.proofs.Edges.{edge-to}
 use Rattle.model.proofs.Search.{reply-yes, reply-no, reply-on}
-use Rattle.level_search.specs.Work.{marks, queue, Room, At, Grown, Next, Fit, Short}
+use Rattle.level_search.specs.Work.{queue, Room, At, Grown, Next, Fit, Short}
 use Rattle.level_search.specs.Run.{Searchable, foundBy}
 use Rattle.level_search.proofs.Marks.{marks-far, marks-zero}
 use Rattle.level_search.proofs.Leads.{leads-fit}

@@ -3,7 +3,7 @@ use checks::Standing;
 use model::Refusal;
 use model::SearchReply;
 ghost use mathlib.Core.Path.{_≡_};
-ghost use mathlib.Core.List.{List};
+ghost use mathlib.Core.List.{List, []};
 ghost use Prim.Native.Nat.{ℕ, _+_, _*_, _≤_, _<_, _^_};
 ghost use lib.ListN.{length, getD};
 ghost use Rattle.model.specs.Lists.{Rising, zeroed};
@@ -12,8 +12,9 @@ ghost use Rattle.model.specs.Levels.{mostStates, Leads};
 ghost use Rattle.model.specs.Replies.{replyOf};
 ghost use Rattle.level_search.specs.Work.{Room, Grown, Ahead, Next, Fit, Short};
 ghost use Rattle.edges.specs.Slots.{Under, Starts};
-ghost use Rattle.calls.specs.Search.{searchCall, SearchMeets};
-ghost use Rattle.level_search.specs.Run.{Searchable, foundBy, Finds, Checks};
+ghost use Rattle.calls.specs.Search.{searchCall};
+ghost use Rattle.calls.specs.Call.{lent, Meets};
+ghost use Rattle.level_search.specs.Run.{Searchable, foundBy, Finds, SearchChecks};
 
 // Work memory: a mark for each state, then the queue of states reached.
 const QUEUE: usize = 1024;
@@ -160,7 +161,10 @@ fn check(
     edges: &[u32],
     work: &[u64],
 ) -> Standing
-    ensures { λ r. ⌜ Checks vertices longest start destination (now (pattern .entry)) (now (edges .entry)) (now (work .entry)) r ⌝ }
+    ensures { λ r. ⌜
+        SearchChecks (record { vertices = vertices; longest = longest }) start destination (now (pattern .entry))
+        (lent (now (edges .entry)) [] (now (work .entry))) r
+        ⌝ }
 {
     let layout = checks::check_layout(vertices, longest, edges);
     let Standing::Edges(n) = layout else {
@@ -189,7 +193,10 @@ pub fn search(
     edges: &[u32],
     work: &mut [u64],
 ) -> SearchReply
-    ensures { λ r. ⌜ SearchMeets (searchCall vertices longest start destination (now (pattern .entry)) «level_limit» (now (edges .entry)) (now (work .entry))) r (now (work .exit)) ⌝ }
+    ensures { λ r. ⌜
+        Meets (searchCall (record { vertices = vertices; longest = longest }) start destination (now (pattern .entry)) «level_limit»
+        (lent (now (edges .entry)) [] (now (work .entry)))) (replyOf r) (lent (now (edges .entry)) [] (now (work .exit)))
+        ⌝ }
 {
     let checked = check(vertices, longest, start, destination, pattern, edges, work);
     match checked {

@@ -17,7 +17,8 @@ use Rattle.edges.specs.declared.Scanned.the-variants.{Edges}
 use Rattle.edges.specs.declared.Found.the-variants.{At, Before}
 use Rattle.edges.proofs.Memory.{Scans, scans, Stands, stands, Lacks, lacks}
 use Rattle.calls.specs.Checks.{Check}
-use Rattle.calls.specs.Change.{Header, Memory, changeChecks, changeRefusal, insertRefusal, removeRefusal}
+use Rattle.calls.specs.Call.{Header, Memory}
+use Rattle.calls.specs.Change.{changeChecks, changeRefusal, insertRefusal, removeRefusal}
 use Rattle.calls.proofs.Checks.{none, pass, stop, first-is, Passed, also, passes}
 use Rattle.calls.proofs.Change.{stop-first, pass-first, Good, change-good}
 use Rattle.named.specs.Named.{Passes, Finds, Places, Takes}

@@ -1,6 +1,6 @@
 -- Every trace is the ledger's: its memory and replies are those of `run`, of which demand 3 is proved.
 use mathlib.Core.Path.{_≡_, refl, sym, ap, ap₂, subst, _∙_}
-use mathlib.Core.Logic.{_⊎_, inl, inr, ⊎-elim}
+use mathlib.Core.Logic.{⊎-elim}
 use mathlib.Core.List.{List, [], _∷_, map}
 use Prim.Native.Nat.{ℕ, zero, suc, _≤_}
 use native.Mathlib.Omega.{arith}
@@ -10,43 +10,28 @@ use Rattle.model.specs.Replies.{numberOf, answerOf}
 use Rattle.model.specs.declared.Answer.{Answer}
 use Rattle.model.specs.declared.Answer.the-variants.{Accepted, Refused}
 use Rattle.model.proofs.Replies.{number-some}
-use Rattle.calls.specs.Change.{Header as Numbers, Memory, Handed, back, Change, numbersOf}
-use Rattle.calls.specs.Card.{readCall}
-use Rattle.calls.proofs.Change.{open-hands, insert-hands, remove-hands}
-use Rattle.calls.proofs.Settling.{read-hands}
+use Rattle.calls.specs.Call.{lent, Meets}
 use Rattle.store.specs.declared.Header.{Header}
 use Rattle.store.specs.declared.Changed.{Changed}
-use Rattle.store.specs.Store.{numbers, Meets}
-use Rattle.demands.specs.Ledger.{Given, Fed, bookEntries, ruling, Shown, shows, Reply, Account, ledger}
-use Rattle.demands.specs.Station.{Call, Station, changeOn, change, headerAfter, after, shownOf, replyOf, run, fedBy, fedAll}
+use Rattle.store.specs.Store.{numbers, returned}
+use Rattle.demands.specs.Ledger.{Given, Fed, bookEntries, ruling, Reply, Account, ledger}
+use Rattle.demands.specs.Station.{Call, Station, changeOn, change, headerAfter, after, replyTo, run, fedBy, fedAll}
 use Rattle.demands.specs.Demand3.{blank, standingGraph, Missed, Demand3}
 use Rattle.demands.specs.Demand2.{Right}
 use Rattle.demands.proofs.Demand3.{first-number, demand3}
 use Rattle.demands.proofs.Demand2.{demand2}
-use Rattle.traces.specs.Traces.{Held, lent, Step, opens, inserts, removes, reads, kept, heldAfter, Trace, done, next, endOf, shownHeader, shownCard, replyTo, repliesOf, feeds, fedOf, accountOf, Accounted, TraceHolds}
+use Rattle.traces.specs.Traces.{Held, Step, opens, inserts, removes, reads, kept, heldAfter, Trace, done, next, endOf, repliesOf, feeds, fedOf, accountOf, Accounted, TraceHolds}
 
 -- ---- one call
 
 -- the header kept, by the answer
-same-header : (c : Change) (answer : Answer) (returned before : Header) → answerOf answer ≡ c .answer → numbers returned ≡ numbersOf (c .handed)
-    → numbers (kept answer returned before) ≡ headerAfter (c .answer) (numbers before) (c .handed)
-same-header c Accepted returned before a h = rw (sym a) h
-same-header c (Refused r) returned before a h = rw (sym a) (go (numberOf r) (number-some r))
+same-header : (answer : Answer) (returned before : Header) → numbers (kept answer returned before) ≡ headerAfter (answerOf answer) (numbers before) (numbers returned)
+same-header Accepted returned before = refl
+same-header (Refused r) returned before = go (numberOf r) (number-some r)
   where
-    go : (n : ℕ) → 1 ≤ n → numbers before ≡ headerAfter n (numbers before) (c .handed)
+    go : (n : ℕ) → 1 ≤ n → numbers before ≡ headerAfter n (numbers before) (numbers returned)
     go zero k = absurd (omega arith)
     go (suc n) k = refl
-
--- the record shown
-back-shown : {handed : Handed} {h : Numbers} (returned : Header) → handed ≡ back h → numbers returned ≡ numbersOf handed
-    → shownHeader returned ≡ shownOf handed
-back-shown returned hands e =
-    ap (λ (k : Numbers). shows (k .vertices) (k .longest)) (e ∙ ap numbersOf hands) ∙ sym (ap shownOf hands)
-
-card-shown : (bytes : List ℕ) (m : Memory) (answer : Answer) (returned : Header) → answerOf answer ≡ readCall bytes m .answer
-    → numbers returned ≡ numbersOf (readCall bytes m .handed) → shownCard answer returned ≡ shownOf (readCall bytes m .handed)
-card-shown bytes m Accepted returned a e = back-shown returned (read-hands bytes m Accepted a) e
-card-shown bytes m (Refused refusal) returned a e = rw (read-hands bytes m (Refused refusal) a) refl
 
 -- ---- one step is one call of `run`
 
@@ -54,24 +39,23 @@ abbrev asStation : Held → Station
 asStation held = record { header = numbers (held .header); edges = held .edges; index = held .index }
 
 record Follows (held : Held) (given : Given) (work : List ℕ) (r : Changed) (edges index : List ℕ) : Type 0 where
-  reply : replyTo given r ≡ replyOf (changeOn (asStation held) work given)
+  reply : replyTo given (returned r) ≡ replyTo given (changeOn (asStation held) work given .reply)
   station : after (asStation held) (changeOn (asStation held) work given) ≡ asStation (heldAfter held r edges index)
 
 module _ {held : Held} {r : Changed} {edges index : List ℕ} where
-  followed : (given : Given) (work : List ℕ) {left : List ℕ} → Meets (changeOn (asStation held) work given) r edges index left
-      → replyTo given r .shown ≡ shownOf (changeOn (asStation held) work given .handed) → Follows held given work r edges index
-  followed given work m e =
-      let same = same-header (changeOn (asStation held) work given) (r .answer) (r .header) (held .header) (m .leaves .answer) (m .header) in
+  followed : (given : Given) (work : List ℕ) {left : List ℕ} → Meets (changeOn (asStation held) work given) (returned r) (lent edges index left)
+      → Follows held given work r edges index
+  followed given work m =
       record {
-        reply = ap₂ (λ (n : ℕ) (s : Shown). record { number = n; shown = s }) (m .leaves .answer) e;
-        station = rw (m .leaves .edges-after, m .leaves .index-after, same) refl;
+        reply = ap (replyTo given) (m .reply-is);
+        station = rw (sym (m .reply-is), m .edges-after, m .index-after, same-header (r .answer) (r .header) (held .header)) refl;
       }
 
   follows : {given : Given} {work : List ℕ} → Step held given work r edges index → Follows held given work r edges index
-  follows (opens header m) = followed _ _ m (back-shown (r .header) (open-hands _ _) (m .header))
-  follows (inserts from label to work left m) = followed _ work m (back-shown (r .header) (insert-hands _ _ from label to) (m .header))
-  follows (removes from label to work left m) = followed _ work m (back-shown (r .header) (remove-hands _ _ from label to) (m .header))
-  follows (reads bytes small work left m) = followed _ work m (card-shown bytes (lent held work) (r .answer) (r .header) (m .leaves .answer) (m .header))
+  follows (opens header m) = followed _ _ m
+  follows (inserts from label to work left m) = followed _ work m
+  follows (removes from label to work left m) = followed _ work m
+  follows (reads bytes small work left m) = followed _ work m
 
 -- ---- a trace is a run
 
@@ -133,7 +117,7 @@ pub trace-holds : TraceHolds
 unfolding callsOf
 trace-holds held given work r edges index first more begins accepted =
     let call : Call = record { given = given; work = work } in
-    let same : answerOf (r .answer) ≡ change (asStation held) call .answer = ap (λ (x : Reply). x .number) (follows first .reply) in
+    let same : answerOf (r .answer) ≡ change (asStation held) call .reply .answer = ap (λ (x : Reply). x .number) (follows first .reply) in
     let e : ruling blank (fedBy (length (held .edges)) (length (held .index)) call) .number ≡ 0
     = ⊎-elim (λ a. sym (first-number (asStation held) call begins) ∙ sym same ∙ ap answerOf a) (λ n. n) accepted in
     accounted (next first more) (demand3 (asStation held) call (callsOf more) begins e) (demand2 .questions (asStation held) call (callsOf more) begins e)

@@ -9,15 +9,16 @@ use Prim.Native.Nat.{ℕ}
 use lib.Dec.{T}
 use lib.ListN.{length}
 use Rattle.model.specs.Lists.{_∈_, keep, filled, Bytes}
-use Rattle.model.specs.Replies.{answerOf}
 use Rattle.model.specs.declared.Answer.{Answer}
 use Rattle.model.specs.declared.Answer.the-variants.{Accepted, Refused}
-use Rattle.calls.specs.Change.{Memory, openCall, insertCall, removeCall}
+use Rattle.calls.specs.Call.{Memory, lent, Meets}
+use Rattle.calls.specs.Change.{openCall, insertCall, removeCall}
 use Rattle.calls.specs.Card.{readCall}
 use Rattle.store.specs.declared.Header.{Header}
 use Rattle.store.specs.declared.Changed.{Changed}
-use Rattle.store.specs.Store.{numbers, Meets}
-use Rattle.demands.specs.Ledger.{Given, opening, insertion, removal, card, Fed, rising, bookEntries, ruling, Shown, shows, nothing, Reply, Account, ledger}
+use Rattle.store.specs.Store.{numbers, returned}
+use Rattle.demands.specs.Ledger.{Given, opening, insertion, removal, card, Fed, rising, bookEntries, ruling, Reply, Account, ledger}
+use Rattle.demands.specs.Station.{replyTo}
 use Rattle.demands.specs.Demand3.{blank, Begins, standingGraph, Missed}
 use Rattle.demands.specs.Demand2.{Right}
 
@@ -27,23 +28,23 @@ pub record Held : Type 0 where
   pub edges : List ℕ
   pub index : List ℕ
 
-abbrev pub lent : Held → List ℕ → Memory
-lent held work = record { edges = held .edges; index = held .index; work = work }
+abbrev pub lentTo : Held → List ℕ → Memory
+lentTo held work = lent (held .edges) (held .index) work
 
 -- One call: what it was given and the work memory lent to it; r is what it returned, edges and index what memory held afterwards. Insertion
 -- and removal are given the header kept. (What work memory held afterwards is not looked at: `left`.)
 pub data Step (held : Held) : Given → List ℕ → Changed → List ℕ → List ℕ → Type 0 where
   opens : {r : Changed} {edges index : List ℕ} (header : Header)
-      → Meets (openCall (numbers header) (lent held [])) r edges index []
+      → Meets (openCall (numbers header) (lentTo held [])) (returned r) (lent edges index [])
       → Step held (opening (header .vertices) (header .longest)) [] r edges index
   inserts : {r : Changed} {edges index : List ℕ} (from label to : ℕ) (work left : List ℕ)
-      → Meets (insertCall (numbers (held .header)) from label to (lent held work)) r edges index left
+      → Meets (insertCall (numbers (held .header)) from label to (lentTo held work)) (returned r) (lent edges index left)
       → Step held (insertion from label to) work r edges index
   removes : {r : Changed} {edges index : List ℕ} (from label to : ℕ) (work left : List ℕ)
-      → Meets (removeCall (numbers (held .header)) from label to (lent held work)) r edges index left
+      → Meets (removeCall (numbers (held .header)) from label to (lentTo held work)) (returned r) (lent edges index left)
       → Step held (removal from label to) work r edges index
   reads : {r : Changed} {edges index : List ℕ} (bytes : List ℕ) (small : Bytes bytes) (work left : List ℕ)
-      → Meets (readCall bytes (lent held work)) r edges index left
+      → Meets (readCall bytes (lentTo held work)) (returned r) (lent edges index left)
       → Step held (card bytes small) work r edges index
 
 -- the header that is kept: the one returned if the call was accepted
@@ -67,26 +68,9 @@ endOf (next step more) = endOf more
 
 -- ---- the replies, as a program reads them off what is returned
 
--- the record shown: the header returned, except that a refused card shows none
-abbrev pub shownHeader : Header → Shown
-shownHeader h = shows (h .vertices) (h .longest)
-
-abbrev pub shownCard : Answer → Header → Shown
-shownCard Accepted h = shownHeader h
-shownCard (Refused refusal) h = nothing
-
-abbrev pub shownTo : Given → Answer → Header → Shown
-shownTo (opening vertices longest) answer h = shownHeader h
-shownTo (insertion from label to) answer h = shownHeader h
-shownTo (removal from label to) answer h = shownHeader h
-shownTo (card bytes small) answer h = shownCard answer h
-
-abbrev pub replyTo : Given → Changed → Reply
-replyTo given r = record { number = answerOf (r .answer); shown = shownTo given (r .answer) (r .header) }
-
 unfoldable pub repliesOf : {held : Held} → Trace held → List Reply
 repliesOf done = []
-repliesOf (next {given = given} {r = r} step more) = let rest = repliesOf more in replyTo given r ∷ rest
+repliesOf (next {given = given} {r = r} step more) = let rest = repliesOf more in replyTo given (returned r) ∷ rest
 
 -- ---- the ledger's account of the same calls: it is fed what each is given and how many slots are lent
 

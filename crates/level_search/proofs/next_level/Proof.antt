@@ -1,9 +1,9 @@
 -- `level_search::next_level` meets its contract: after the states before k, work memory has grown by what they lead to.
 use mathlib.Core.Path.{_≡_}
-use Prim.Native.Nat.{ℕ, suc, _+_, _-_, _≤_, _<_}
+use Prim.Native.Nat.{suc, _-_, _≤_, _<_}
 use native.Mathlib.Nat.{le-refl, le-antisymm}
 use native.Mathlib.Omega.{arith}
-use lib.ListN.{length, getD}
+use lib.ListN.{length}
 use Rattle.model.specs.Limits.{leastWork}
 use Rattle.model.specs.Levels.{mostStates}
 use Rattle.level_search.specs.Work.{Grown, Next, queue}
