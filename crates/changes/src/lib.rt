@@ -2,6 +2,7 @@
 // which read only; then edge memory is saved, the wanted edges are written, and `settle` does the rest.
 use card::Checked;
 use model::Answer;
+use model::MOST_EDGES;
 use model::Refusal;
 use named::Slot;
 ghost use mathlib.Core.List.{[]};
@@ -10,8 +11,6 @@ ghost use Rattle.calls.specs.Call.{lent, Meets};
 ghost use Rattle.calls.specs.Change.{answers, openCall, insertCall, removeCall};
 ghost use Rattle.calls.specs.Card.{readCall};
 ghost use Rattle.changes.specs.Changes.{Readings, cardReturned};
-
-const MOST_EDGES: usize = 1024;
 
 // A card's vertices, longest pattern and number of edges, or the refusal.
 enum Layout {
