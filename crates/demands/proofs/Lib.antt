@@ -1,5 +1,4 @@
 pub mod Index
-pub mod Trials
 pub mod Rising
 pub mod Numbers
 pub mod Steps
@@ -14,4 +13,3 @@ pub mod Right
 pub mod Receiving
 pub mod Demand2
 pub mod Meaning
-pub mod Example

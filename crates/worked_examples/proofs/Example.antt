@@ -10,12 +10,12 @@ use Rattle.model.proofs.Tests.{test-all, test-lt}
 use Rattle.calls.specs.Checks.{firstRefusal}
 use Rattle.calls.specs.Change.{settle, openRefusal, openCall, insertRefusal, insertCall}
 use Rattle.calls.specs.Card.{edgesOf, risingTriples?, cardEdges?, readRefusal, readCall}
 use Rattle.demands.specs.Ledger.{openingNumber, Account}
 use Rattle.demands.specs.Station.{run}
 use Rattle.demands.specs.Demand3.{by-opening, Demand3}
-use Rattle.demands.specs.Trials.{A, slotsA, cardA}
-use Rattle.demands.specs.Example.{garbage, calls, Example}
+use Rattle.worked_examples.specs.Trials.{A, slotsA, cardA}
+use Rattle.worked_examples.specs.Example.{garbage, calls, Example}
 use Rattle.demands.proofs.Demand3.{demand3}
 
 pub bytesA : Bytes cardA
 unfolding cardA all?

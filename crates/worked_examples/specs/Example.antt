@@ -4,10 +4,10 @@ use mathlib.Core.Path.{_≡_}
 use mathlib.Core.List.{List, [], _∷_}
 use lib.ListN.{replicate}
 use Rattle.model.specs.Lists.{Bytes}
 use Rattle.demands.specs.Ledger.{opening, insertion, card, shows, Reply, ledger}
 use Rattle.demands.specs.Station.{Call, Station, run, fedAll}
 use Rattle.demands.specs.Demand3.{blank}
-use Rattle.demands.specs.Trials.{A, slotsA, cardA}
+use Rattle.worked_examples.specs.Trials.{A, slotsA, cardA}
 
 abbrev pub garbage : Station
 garbage = record { header = record { vertices = 9; longest = 9 }; edges = 7 ∷ 7 ∷ 7 ∷ []; index = 7 ∷ 7 ∷ 7 ∷ 7 ∷ 7 ∷ [] }
