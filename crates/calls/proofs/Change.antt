@@ -42,7 +42,7 @@ pub front-passes : (l later : List Check) → firstRefusal (l ++ later) ≡ 0 �
 front-passes l later e = elim (decLt 0 (firstRefusal l)) [ yes h ↦ absurd (omega (arith, stop-first l later refl h, e, h)) | no h ↦ omega (arith, h) ]
 
 -- what the checks 1 to 6 leave
-pub record Good (h : Header) (from label to : ℕ) (m : Memory) : Type 0 where
+pub record ChangeGood (h : Header) (from label to : ℕ) (m : Memory) : Type 0 where
   pub header : Bounds (h .vertices) (h .longest)
   pub memory : edgeMemory? (h .vertices) (m .edges) ≡ true
   pub room : leastWork + length (m .index) ≤ length (m .work)
@@ -51,7 +51,7 @@ pub record Good (h : Header) (from label to : ℕ) (m : Memory) : Type 0 where
   pub label-least : 1 ≤ label
   pub label-most : label ≤ mostLabel
 
-good : (h : Header) (from label to : ℕ) (m : Memory) → Passed (changeChecks h from label to m) → Good h from label to m
+good : (h : Header) (from label to : ℕ) (m : Memory) → Passed (changeChecks h from label to m) → ChangeGood h from label to m
 good h from label to m (also vertices (also longest (also memory (also room (also ends (also a-label done)))))) =
     let (v, w) = test-yields (test-vertices (h .vertices)) vertices in
     let (k, l) = test-yields (test-longest (h .longest)) longest in
@@ -67,7 +67,7 @@ good h from label to m (also vertices (also longest (also memory (also room (als
       label-most = d;
     }
 
-pub change-good : (h : Header) (from label to : ℕ) (m : Memory) → changeRefusal h from label to m ≡ 0 → Good h from label to m
+pub change-good : (h : Header) (from label to : ℕ) (m : Memory) → changeRefusal h from label to m ≡ 0 → ChangeGood h from label to m
 unfolding changeRefusal
 change-good h from label to m e = good h from label to m (passes (changeChecks h from label to m) tt e)
 

@@ -13,7 +13,7 @@ use Rattle.model.proofs.Tests.{test-true}
 use Rattle.edges.proofs.Memory.{length-insert, member-insert, rising-insert, length-remove, member-remove, rising-remove}
 use Rattle.calls.specs.Call.{Header, Memory, Meets}
 use Rattle.calls.specs.Change.{refusedWith, answers, settle, openRefusal, openCall, insertRefusal, insertCall, removeRefusal, removeCall}
-use Rattle.calls.proofs.Change.{Good, change-refused}
+use Rattle.calls.proofs.Change.{ChangeGood, change-refused}
 use Rattle.calls.proofs.Calls.{accepted-is}
 use Rattle.named.specs.Named.{Places, Takes}
 use Rattle.named.proofs.Naming.{good, memory, places-absent, takes-present}
@@ -46,7 +46,7 @@ module _ (h : Header) (from label to : ℕ) (m : Memory) where
 
 module _ {h : Header} {from label to : ℕ} {m : Memory} where
   -- the named edge is one of the graph
-  named-edge : Good h from label to m → edge? (h .vertices) (edgeNumber from label to) ≡ true
+  named-edge : ChangeGood h from label to m → edge? (h .vertices) (edgeNumber from label to) ≡ true
   named-edge g =
       let (a, b, c) = edge-fields from label to (omega (arith, g .label-most)) (omega (arith, g .to-vertex, g .header .vertices-most)) in
       test-true (test-edge (h .vertices) (edgeNumber from label to)) (record {

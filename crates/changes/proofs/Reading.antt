@@ -59,20 +59,20 @@ module _ (card : List ℕ) (m : Memory) where
             ∙ first-is (pass (test-true (test-le (length (m .edges)) mostEdges) few) (pass (test-true (test-le (countOf card) (length (m .edges))) fits) (pass h none)))
 
 -- what they leave
-record Good (card : List ℕ) (m : Memory) : Type 0 where
+record ReadGood (card : List ℕ) (m : Memory) : Type 0 where
   alone : CardGood card
   few : length (m .edges) ≤ mostEdges
   fits : countOf card ≤ length (m .edges)
   room : leastWork + length (m .index) ≤ length (m .work)
 
-good : (card : List ℕ) (m : Memory) → readRefusal card m ≡ 0 → Good card m
+good : (card : List ℕ) (m : Memory) → readRefusal card m ≡ 0 → ReadGood card m
 unfolding cardRefusal readRefusal
 good card m e = go (passes _ tt (sym (pass-first (cardChecks card) _ tt alone) ∙ e))
   where
     alone : cardRefusal card ≡ 0
     alone = front-passes (cardChecks card) _ e
 
-    go : Passed ((3, leb (length (m .edges)) mostEdges) ∷ (9, leb (countOf card) (length (m .edges))) ∷ (4, buildRoom? m) ∷ []) → Good card m
+    go : Passed ((3, leb (length (m .edges)) mostEdges) ∷ (9, leb (countOf card) (length (m .edges))) ∷ (4, buildRoom? m) ∷ []) → ReadGood card m
     go (also a (also b (also c done))) =
         record {
           alone = card-good card alone;

@@ -56,14 +56,14 @@ module _ (card : List ℕ) (bytes : Bytes card) (work : List ℕ) where
       go false e = rw (e, card-edges-long card (test-fails (test-eq (length card) (9 + 3 * n)) e)) refl
 
   -- what is known of a card whose own checks have passed
-  record Whole : Type 0 where
+  record WholeCard : Type 0 where
     size : length card ≡ 9 + 3 * n
     count : length wanted ≡ n
     edges-are : map (edgeAt card) (upTo n) ≡ wanted
     valid : EdgesOf (headerOf card .vertices) wanted
     rises : rising wanted ≡ wanted
 
-  whole : cardEdges? card ≡ true → Whole
+  whole : cardEdges? card ≡ true → WholeCard
   unfolding cardEdges?
   whole e =
       let (a, b) = test-yields (test-and (test-eq (length card) (9 + 3 * n)) (test-T (risingTriples? (headerOf card .vertices) 0 (drop headBytes card)))) e in
@@ -77,7 +77,7 @@ module _ (card : List ℕ) (bytes : Bytes card) (work : List ℕ) where
         rises = rising-is wanted (card-vertices card bytes) valid (good .rising) (λ x m. m) (λ x m. m);
       }
 
-  book-entries : Whole → bookEntries (cardBook card) ≡ determined (graphOf (headerOf card) wanted)
+  book-entries : WholeCard → bookEntries (cardBook card) ≡ determined (graphOf (headerOf card) wanted)
   unfolding cardBook
   book-entries w = rw (w .edges-are, w .rises) refl
 
@@ -114,7 +114,7 @@ module _ (card : List ℕ) (bytes : Bytes card) (work : List ℕ) where
         four : narrow (fedBy slots room reads) ≡ not (buildRoom? m)
         four = rw long (above-not (4096 + room) (length work))
 
-        thirteen : Whole → full (cardBook card) (fedBy slots room reads) ≡ not (fits? (headerOf card) wanted m)
+        thirteen : WholeCard → full (cardBook card) (fedBy slots room reads) ≡ not (fits? (headerOf card) wanted m)
         thirteen w = rw (book-entries w, long) (above-not (length (determined (graphOf (headerOf card) wanted))) room)
 
     read-reaches : firstRefusal allChecks ≡ 0 → Reaches slots room (settledChange (headerOf card) wanted m) (cardBook card)

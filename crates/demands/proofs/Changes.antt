@@ -54,11 +54,11 @@ module _ {slots room : ℕ} {b : Book} (f : Fine slots room b) (from label to : 
   stands = standing-filled slots L (λ z k. omega (arith, edge-least (b .vertices) z (listed z k)))
 
   -- what is known of the named edge where its checks have passed
-  record IsEdge : Type 0 where
+  record NamedEdge : Type 0 where
     valid : edge? (b .vertices) x ≡ true
     below : x < mostVertices * fromUnit
 
-  is-edge : ends? (b .vertices) from to ≡ true → label? label ≡ true → IsEdge
+  is-edge : ends? (b .vertices) from to ≡ true → label? label ≡ true → NamedEdge
   is-edge e k =
       let (p, q) = test-yields (test-ends (b .vertices) from to) e in
       let (u, v) = test-yields (test-and (test-le 1 label) (test-le label 8)) k in
@@ -68,7 +68,7 @@ module _ {slots room : ℕ} {b : Book} (f : Fine slots room b) (from label to : 
 
   -- "1 2 3 4 5 6", then what is left
   named : (fed : Fed) → fed .edgeSlots ≡ slots → fed .indexSlots ≡ room → fed .workSlots ≡ length work → (later : List Check) {later′ : ℕ}
-      → (IsEdge → Gives later later′) → Gives (changeChecks (recordOf b) from label to m ++ later) (namedNumber b from label to fed later′)
+      → (NamedEdge → Gives later later′) → Gives (changeChecks (recordOf b) from label to m ++ later) (namedNumber b from label to fed later′)
   unfolding namedNumber
   named fed e i w later g =
       chain (outside-not 1 mostVertices (b .vertices)) (λ _.
@@ -90,7 +90,7 @@ module _ {slots room : ℕ} {b : Book} (f : Fine slots room b) (from label to : 
       five = rw (from-not from (b .vertices), from-not to (b .vertices)) (either-not (ltb from (b .vertices)) (ltb to (b .vertices)))
 
   -- the named edge stands where the ledger has it
-  known : IsEdge → mem? x (standing (filled slots L)) ≡ mem? x (b .edges)
+  known : NamedEdge → mem? x (standing (filled slots L)) ≡ mem? x (b .edges)
   known q = rw stands (test-agree (test-mem x L) (test-map (λ k. rising-in (b .edges) (q .below) k) (λ k. rising-out (b .edges) k) (test-mem x (b .edges))))
 
   -- the wanted edges as the ledger has them, and as edge memory gets them
@@ -102,7 +102,7 @@ module _ {slots room : ℕ} {b : Book} (f : Fine slots room b) (from label to : 
 
   -- ---- laying
 
-  module _ (q : IsEdge) (new : mem? x (b .edges) ≡ false) where
+  module _ (q : NamedEdge) (new : mem? x (b .edges) ≡ false) where
     absent : ¬ (x ∈ L)
     absent k = test-fails (test-mem x (b .edges)) new (rising-out (b .edges) k)
 
@@ -123,7 +123,7 @@ module _ {slots room : ℕ} {b : Book} (f : Fine slots room b) (from label to : 
     inserted-length : length (rising (x ∷ b .edges)) ≡ suc (length L)
     inserted-length = rw (inserted-is, stands) (length-insert x L)
 
-  fresh : IsEdge → not (mem? x (standing (filled slots L))) ≡ true → mem? x (b .edges) ≡ false
+  fresh : NamedEdge → not (mem? x (standing (filled slots L))) ≡ true → mem? x (b .edges) ≡ false
   fresh q e = test-false (test-mem x (b .edges)) (λ k. test-yields (test-not (test-mem x (b .edges))) (rw (known q) at e) k)
 
   abbrev insertChecks : List Check
@@ -141,15 +141,15 @@ module _ {slots room : ℕ} {b : Book} (f : Fine slots room b) (from label to : 
       chain (nine q gone) (λ _.
       chain (thirteen q gone) (λ _. gives-none))))
     where
-      seven : IsEdge → mem? x (b .edges) ≡ not (not (mem? x (standing (filled slots L))))
+      seven : NamedEdge → mem? x (b .edges) ≡ not (not (mem? x (standing (filled slots L))))
       seven q = rw (known q) (not-not (mem? x (b .edges)))
 
-      nine : (q : IsEdge) → mem? x (b .edges) ≡ false → ltb slots (length (rising (x ∷ b .edges))) ≡ not (ltb (length (standing (filled slots L))) (length (filled slots L)))
+      nine : (q : NamedEdge) → mem? x (b .edges) ≡ false → ltb slots (length (rising (x ∷ b .edges))) ≡ not (ltb (length (standing (filled slots L))) (length (filled slots L)))
       nine q e =
           rw (inserted-length q e, stands, edge-slots f)
           (test-agree (test-lt slots (suc (length L))) (test-map (λ h. omega (arith, h)) (λ h k. omega (arith, h, k)) (test-not (test-lt (length L) slots))))
 
-      thirteen : (q : IsEdge) → mem? x (b .edges) ≡ false → full (inserted b x) (fedBy slots room inserts) ≡ not (fits? (recordOf b) grown m)
+      thirteen : (q : NamedEdge) → mem? x (b .edges) ≡ false → full (inserted b x) (fedBy slots room inserts) ≡ not (fits? (recordOf b) grown m)
       thirteen q e = rw (inserted-is q e, index-slots f) (above-not (length (determined (graphOf (recordOf b) grown))) room)
 
   insert-reaches : firstRefusal (insertChecks ++ ((13, fits? (recordOf b) grown m) ∷ [])) ≡ 0 → Reaches slots room (settledChange (recordOf b) grown m) (inserted b x)
@@ -209,7 +209,7 @@ module _ {slots room : ℕ} {b : Book} (f : Fine slots room b) (from label to : 
       chain (eight q) (λ _.
       chain thirteen (λ _. gives-none)))
     where
-      eight : IsEdge → not (mem? x (b .edges)) ≡ not (mem? x (standing (filled slots L)))
+      eight : NamedEdge → not (mem? x (b .edges)) ≡ not (mem? x (standing (filled slots L)))
       eight q = rw (known q) refl
 
       thirteen : full (removed b x) (fedBy slots room removes) ≡ not (fits? (recordOf b) less m)

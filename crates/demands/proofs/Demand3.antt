@@ -15,7 +15,7 @@ use Rattle.model.proofs.Order.{counted-names}
 use Rattle.calls.specs.Call.{lent}
 use Rattle.calls.specs.Query.{queryRefusal, queryCall}
 use Rattle.calls.proofs.Checks.{none, pass, first-is, bounds-pass, test-ends}
-use Rattle.demands.specs.Ledger.{Given, opening, insertion, removal, card, Fed, Book, bookEntries, ruling, turnWith, turn, Reply, ledger}
+use Rattle.demands.specs.Ledger.{Given, opening, insertion, removal, card, Fed, Book, bookEntries, ruling, turnWith, turn, LedgerReply, ledger}
 use Rattle.demands.specs.Station.{Call, Station, changeOn, change, run, fedBy, fedAll}
 use Rattle.demands.specs.Demand3.{blank, Begins, standingGraph, Missed, Demand3Holds}
 use Rattle.demands.proofs.Index.{Turned, struck-answer}
@@ -48,7 +48,7 @@ module _ (slots room : ℕ) where
   unfolding run ledger
   after-first c {more} m a =
       record {
-        replies = ap₂ (λ (x : Reply) (l : List Reply). x ∷ l) (m .reply) (ap (λ (t : Station). run t more .replies) (m .next) ∙ a .replies);
+        replies = ap₂ (λ (x : LedgerReply) (l : List LedgerReply). x ∷ l) (m .reply) (ap (λ (t : Station). run t more .replies) (m .next) ∙ a .replies);
         station = ap (λ (t : Station). run t more .station) (m .next) ∙ a .station;
         fine = a .fine;
       }
@@ -86,8 +86,8 @@ first-number s c begins = on (c .given) begins ∙ turn-number blank (fedBy (len
     on : (given : Given) → Begins given
         → changeOn s (c .work) given .reply .answer ≡ turn blank (fedBy (length (s .edges)) (length (s .index)) (record { given = given; work = c .work })) .reply .number
     on (opening vertices longest) _ =
-        ap (λ (x : Reply). x .number) (open-first (record { vertices = vertices; longest = longest }) (c .work) s refl refl blank)
-    on (card bytes small) _ = ap (λ (x : Reply). x .number) (read-first bytes small (c .work) s refl refl blank)
+        ap (λ (x : LedgerReply). x .number) (open-first (record { vertices = vertices; longest = longest }) (c .work) s refl refl blank)
+    on (card bytes small) _ = ap (λ (x : LedgerReply). x .number) (read-first bytes small (c .work) s refl refl blank)
 
 -- ---- no entry can be spared
 

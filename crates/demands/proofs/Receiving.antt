@@ -16,7 +16,7 @@ use Rattle.model.proofs.Tests.{test-false, test-yields, test-or, test-lt, test-
 use Rattle.model.proofs.Edges.{IsEdge, test-edge}
 use Rattle.model.proofs.Lists.{sorted-imp}
 use Rattle.model.proofs.Counting.{no-more, rising-same}
-use Rattle.demands.specs.Ledger.{opening, insertion, card, Fed, Book, rising, bookEntries, when, outside, full, openingNumber, namedNumber, inserted, insertionNumber, cardBook, shows, Reply, Turn, turn, Account, ledger}
+use Rattle.demands.specs.Ledger.{opening, insertion, card, Fed, Book, rising, bookEntries, when, outside, full, openingNumber, namedNumber, inserted, insertionNumber, cardBook, shows, LedgerReply, Turn, turn, Account, ledger}
 use Rattle.calls.proofs.Card.{card-good}
 use Rattle.demands.specs.Station.{Call, Station, memoryOf, changeOn, after, fedBy}
 use Rattle.demands.specs.Demand3.{blank, by-opening, by-card}
@@ -125,7 +125,7 @@ module _ {slots room : ℕ} {b : Book} (fine : Fine slots room b) (rises : Risin
 
   -- all of them, from those before on
   record Received (a : Account) : Type 0 where
-    accepted : (r : Reply) → List·Memᴰ r (a .replies) → r .number ≡ 0
+    accepted : (r : LedgerReply) → List·Memᴰ r (a .replies) → r .number ≡ 0
     held : List ℕ
     book : a .book ≡ holding held
     same : Same held (b .edges)

@@ -25,7 +25,7 @@ use Rattle.calls.specs.Change.{Returned, changeChecks, changeRefusal, openRefus
 use Rattle.calls.specs.Card.{headerOf, readCall}
 use Rattle.calls.specs.Query.{saying, queryRefusal, queryCall}
 use Rattle.calls.proofs.Checks.{First, none, pass, stop, first-is, bounded, bounds-pass, test-ends}
-use Rattle.calls.proofs.Change.{Good, change-good, front-passes}
+use Rattle.calls.proofs.Change.{ChangeGood, change-good, front-passes}
 use Rattle.calls.proofs.Settling.{settledChange, Result, settled, with-number, accepted-zero}
 use Rattle.calls.proofs.Passing.{passing}
 use Rattle.demands.specs.Ledger.{Given, opening, insertion, removal, card}
@@ -148,7 +148,7 @@ module _ (h : Header) (from label to : ℕ) (m : Memory) where
   x = edgeNumber from label to
 
   -- the checks with which both begin have passed
-  begun : (later : List Check) → firstRefusal (changeChecks h from label to m ++ later) ≡ 0 → Good h from label to m
+  begun : (later : List Check) → firstRefusal (changeChecks h from label to m ++ later) ≡ 0 → ChangeGood h from label to m
   unfolding changeRefusal
   begun later z = change-good h from label to m (front-passes (changeChecks h from label to m) later z)
 

@@ -15,7 +15,7 @@ use Rattle.calls.specs.Call.{Header, graphOf, Memory, lent, Outcome}
 use Rattle.calls.specs.Change.{Returned}
 use Rattle.calls.specs.Card.{readCall, Length, writeCall}
 use Rattle.calls.specs.Query.{queryCall}
-use Rattle.demands.specs.Ledger.{Book, opening, insertion, card, bookEntries, cardBook, ruling, Reply, ledger}
+use Rattle.demands.specs.Ledger.{Book, opening, insertion, card, bookEntries, cardBook, ruling, LedgerReply, ledger}
 use Rattle.demands.specs.Station.{Call, Station, changeOn, change, after, run, fedBy, fedAll}
 use Rattle.demands.specs.Demand3.{blank, Begins, standingGraph}
 
@@ -62,7 +62,7 @@ pub record Suffices (b : Book) (room : ℕ) (works : ℕ → List ℕ) : Type 0 
 
 -- every call is accepted, and in the end record, edge and index memory are those
 pub record Receives (s : Station) (calls : List Call) (end : Station) : Type 0 where
-  pub accepted : (r : Reply) → List·Memᴰ r (run s calls .replies) → r .number ≡ 0
+  pub accepted : (r : LedgerReply) → List·Memᴰ r (run s calls .replies) → r .number ≡ 0
   pub same : run s calls .station ≡ end
 
 pub record Demand2 : Type 0 where

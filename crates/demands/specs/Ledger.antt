@@ -176,12 +176,12 @@ ruling b f = rulingOn b f (f .given)
 -- ---- the replies
 
 -- the number, 0 if accepted, and the record
-pub record Reply : Type 0 where
+pub record LedgerReply : Type 0 where
   pub number : ℕ
   pub shown : Shown
 
 pub record Turn : Type 0 where
-  pub reply : Reply
+  pub reply : LedgerReply
   pub book : Book
 
 -- "A refused call changes nothing. The reply is the record of the places and k then held; after a refusal, the number, with" the record shown
@@ -194,7 +194,7 @@ turn b f = turnWith (ruling b f .number) b (ruling b f .sets) (ruling b f .refus
 
 -- the replies of a list of calls, and what the ledger then holds
 pub record Account : Type 0 where
-  pub replies : List Reply
+  pub replies : List LedgerReply
   pub book : Book
 
 unfoldable pub ledger : Book → List Fed → Account

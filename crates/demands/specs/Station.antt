@@ -5,7 +5,7 @@ use lib.ListN.{length}
 use Rattle.calls.specs.Call.{Header, Memory, lent, Outcome}
 use Rattle.calls.specs.Change.{Returned, openCall, insertCall, removeCall}
 use Rattle.calls.specs.Card.{readCall}
-use Rattle.demands.specs.Ledger.{Given, opening, insertion, removal, card, Fed, Shown, shows, nothing, Reply}
+use Rattle.demands.specs.Ledger.{Given, opening, insertion, removal, card, Fed, Shown, shows, nothing, LedgerReply}
 
 -- a call: what it is given, and the work memory lent to it (an opening uses none)
 pub record Call : Type 0 where
@@ -51,11 +51,11 @@ shownTo (insertion from label to) r = shows (r .header .vertices) (r .header .lo
 shownTo (removal from label to) r = shows (r .header .vertices) (r .header .longest)
 shownTo (card bytes _) r = shownCard (r .answer) (r .header)
 
-abbrev pub replyTo : Given → Returned → Reply
+abbrev pub replyTo : Given → Returned → LedgerReply
 replyTo given r = record { number = r .answer; shown = shownTo given r }
 
 pub record Run : Type 0 where
-  pub replies : List Reply
+  pub replies : List LedgerReply
   pub station : Station
 
 unfoldable pub run : Station → List Call → Run

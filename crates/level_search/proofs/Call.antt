@@ -18,7 +18,7 @@ use Rattle.model.specs.declared.Refusal.{Refusal}
 use Rattle.calls.specs.Call.{Header, Memory, Meets}
 use Rattle.calls.specs.Search.{searchRefusal, searchCall}
 use Rattle.calls.proofs.Calls.{refused-meets, accepted-is}
-use Rattle.level_search.specs.Run.{SearchPasses, Searchable, Finds}
+use Rattle.level_search.specs.Run.{SearchPasses, Searchable, Searches}
 
 module _ {h : Header} {s t : ℕ} {pattern : List ℕ} {m : Memory} {n : ℕ} (p : SearchPasses h s t pattern m n) (size : ℕ) (is : size ≡ foldedLength pattern) where
   edge-memory : Scans (h .vertices) (m .edges) n
@@ -50,7 +50,7 @@ module _ {h : Header} {s t : ℕ} {pattern : List ℕ} {m : Memory} {n : ℕ} (p
     destination = p .destination-vertex;
   })
 
-  pub meets : {limit : ℕ} {r : SearchReply} {work′ : List ℕ} → Finds (h .vertices) (take n (m .edges)) (take size pattern) s t limit (m .work) r work′
+  pub meets : {limit : ℕ} {r : SearchReply} {work′ : List ℕ} → Searches (h .vertices) (take n (m .edges)) (take size pattern) s t limit (m .work) r work′
       → Meets (searchCall h s t pattern limit m) (replyOf r) (record { edges = m .edges; index = m .index; work = work′; output = m .output })
   unfolding searchCall
   meets {limit} f = rw (accepted-is Refused m _ (searchRefusal h s t pattern m) (p .is)) (record {

@@ -31,7 +31,7 @@ abbrev pub foundBy : ℕ → List ℕ → List ℕ → ℕ → ℕ → ℕ → R
 foundBy vertices edges l s t limit = levelReply (bare vertices edges) l s t limit
 
 -- the search's contract: the reply is the levels', and work memory ends zero
-pub record Finds (vertices : ℕ) (edges l : List ℕ) (s t limit : ℕ) (work : List ℕ) (r : SearchReply) (work′ : List ℕ) : Type 0 where
+pub record Searches (vertices : ℕ) (edges l : List ℕ) (s t limit : ℕ) (work : List ℕ) (r : SearchReply) (work′ : List ℕ) : Type 0 where
   pub reply : replyOf r ≡ foundBy vertices edges l s t limit
   pub work-after : work′ ≡ zeroed work
 

@@ -62,7 +62,7 @@ pub record Ahead (edges : List ℕ) (i key base y : ℕ) : Type 0 where
   pub is : y + key ≡ base + getD edges j 0
 
 -- y is led to from a state that stands in the queue from lo up to hi
-pub record Next (edges l w : List ℕ) (lo hi y : ℕ) : Type 0 where
+pub record LedTo (edges l w : List ℕ) (lo hi y : ℕ) : Type 0 where
   pub k : ℕ
   pub from : lo ≤ k
   pub to : k < hi

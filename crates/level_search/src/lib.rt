@@ -15,11 +15,11 @@ ghost use Rattle.model.specs.Lists.{Rising, zeroed};
 ghost use Rattle.model.specs.Limits.{mostVertices, labelUnit, leastWork};
 ghost use Rattle.model.specs.Levels.{mostStates, Leads};
 ghost use Rattle.model.specs.Replies.{replyOf};
-ghost use Rattle.level_search.specs.Work.{Room, Grown, Ahead, Next, Fit, Short};
+ghost use Rattle.level_search.specs.Work.{Room, Grown, Ahead, LedTo, Fit, Short};
 ghost use Rattle.edges.specs.Slots.{Under, Starts};
 ghost use Rattle.calls.specs.Search.{searchCall};
 ghost use Rattle.calls.specs.Call.{lent, Meets};
-ghost use Rattle.level_search.specs.Run.{Searchable, foundBy, Finds, SearchChecks};
+ghost use Rattle.level_search.specs.Run.{Searchable, foundBy, Searches, SearchChecks};
 
 // Work memory: a mark for each state, then the queue of states reached.
 const QUEUE: usize = MOST_LONGEST * MOST_VERTICES;
@@ -89,7 +89,7 @@ fn next_level(
 ) -> usize
     requires { ⌜ Rising (now edges) × Starts (now edges) (now slots) ⌝ }
     requires { ⌜ Room (now work) hi × (Short (now pattern) × (Fit (now pattern) (now work) lo hi × (lo ≤ hi))) ⌝ }
-    ensures { λ r. ⌜ Grown (now (work .entry)) hi (now (work .exit)) r (Next (now (edges .entry)) (now (pattern .entry)) (now (work .entry)) lo hi) ⌝ }
+    ensures { λ r. ⌜ Grown (now (work .entry)) hi (now (work .exit)) r (LedTo (now (edges .entry)) (now (pattern .entry)) (now (work .entry)) lo hi) ⌝ }
 {
     let mut n = hi;
     let mut k = lo;
@@ -146,7 +146,7 @@ pub fn run(
     work: &mut [u64],
 ) -> SearchReply
     requires { ⌜ Searchable vertices (now edges) (now pattern) s t × (leastWork ≤ length (now work)) ⌝ }
-    ensures { λ r. ⌜ Finds vertices (now (edges .entry)) (now (pattern .entry)) s t limit (now (work .entry)) r (now (work .exit)) ⌝ }
+    ensures { λ r. ⌜ Searches vertices (now (edges .entry)) (now (pattern .entry)) s t limit (now (work .entry)) r (now (work .exit)) ⌝ }
 {
     edges::clear_work(&mut work[..LEAST_WORK]);
     let reply = levels(vertices, edges, pattern, s, t, limit, &mut work[..LEAST_WORK]);

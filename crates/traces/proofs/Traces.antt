@@ -14,7 +14,7 @@ use Rattle.calls.specs.Call.{lent, Meets}
 use Rattle.store.specs.declared.Header.{Header}
 use Rattle.store.specs.declared.Changed.{Changed}
 use Rattle.store.specs.Store.{numbers, returned}
-use Rattle.demands.specs.Ledger.{Given, Fed, bookEntries, ruling, Reply, Account, ledger}
+use Rattle.demands.specs.Ledger.{Given, Fed, bookEntries, ruling, LedgerReply, Account, ledger}
 use Rattle.demands.specs.Station.{Call, Station, changeOn, change, headerAfter, after, replyTo, run, fedBy, fedAll}
 use Rattle.demands.specs.Demand3.{blank, standingGraph, Missed, Demand3}
 use Rattle.demands.specs.Demand2.{Right}
@@ -75,7 +75,7 @@ ran (next {given = given} {work = work} step more) =
     let f = follows step in
     let rest = ran more in
     record {
-      replies = ap₂ (λ (x : Reply) (l : List Reply). x ∷ l) (f .reply) (rest .replies ∙ sym (ap (λ (s : Station). run s (callsOf more) .replies) (f .station)));
+      replies = ap₂ (λ (x : LedgerReply) (l : List LedgerReply). x ∷ l) (f .reply) (rest .replies ∙ sym (ap (λ (s : Station). run s (callsOf more) .replies) (f .station)));
       station = ap (λ (s : Station). run s (callsOf more) .station) (f .station) ∙ rest .station;
       fed = λ slots room. ap (λ (l : List Fed). feeds slots room given work ∷ l) (rest .fed slots room);
     }
@@ -117,7 +117,7 @@ pub trace-holds : TraceHolds
 unfolding callsOf
 trace-holds held given work r edges index first more begins accepted =
     let call : Call = record { given = given; work = work } in
-    let same : answerOf (r .answer) ≡ change (asStation held) call .reply .answer = ap (λ (x : Reply). x .number) (follows first .reply) in
+    let same : answerOf (r .answer) ≡ change (asStation held) call .reply .answer = ap (λ (x : LedgerReply). x .number) (follows first .reply) in
     let e : ruling blank (fedBy (length (held .edges)) (length (held .index)) call) .number ≡ 0
     = ⊎-elim (λ a. sym (first-number (asStation held) call begins) ∙ sym same ∙ ap answerOf a) (λ n. n) accepted in
     accounted (next first more) (demand3 (asStation held) call (callsOf more) begins e) (demand2 .questions (asStation held) call (callsOf more) begins e)

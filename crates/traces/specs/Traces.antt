@@ -17,7 +17,7 @@ use Rattle.calls.specs.Card.{readCall}
 use Rattle.store.specs.declared.Header.{Header}
 use Rattle.store.specs.declared.Changed.{Changed}
 use Rattle.store.specs.Store.{numbers, returned}
-use Rattle.demands.specs.Ledger.{Given, opening, insertion, removal, card, Fed, rising, bookEntries, ruling, Reply, Account, ledger}
+use Rattle.demands.specs.Ledger.{Given, opening, insertion, removal, card, Fed, rising, bookEntries, ruling, LedgerReply, Account, ledger}
 use Rattle.demands.specs.Station.{replyTo}
 use Rattle.demands.specs.Demand3.{blank, Begins, standingGraph, Missed}
 use Rattle.demands.specs.Demand2.{Right}
@@ -68,7 +68,7 @@ endOf (next step more) = endOf more
 
 -- ---- the replies, as a program reads them off what is returned
 
-unfoldable pub repliesOf : {held : Held} → Trace held → List Reply
+unfoldable pub repliesOf : {held : Held} → Trace held → List LedgerReply
 repliesOf done = []
 repliesOf (next {given = given} {r = r} step more) = let rest = repliesOf more in replyTo given (returned r) ∷ rest
 

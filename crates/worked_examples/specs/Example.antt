@@ -4,7 +4,7 @@ use mathlib.Core.Path.{_≡_}
 use mathlib.Core.List.{List, [], _∷_}
 use lib.ListN.{replicate}
 use Rattle.model.specs.Lists.{Bytes}
-use Rattle.demands.specs.Ledger.{opening, insertion, card, shows, Reply, ledger}
+use Rattle.demands.specs.Ledger.{opening, insertion, card, shows, LedgerReply, ledger}
 use Rattle.demands.specs.Station.{Call, Station, run, fedAll}
 use Rattle.demands.specs.Demand3.{blank}
 use Rattle.worked_examples.specs.Trials.{A, slotsA, cardA}
@@ -21,7 +21,7 @@ calls bytes =
     ∷ []
 
 -- accepted, accepted, 7 and 4, each with the record of 3 vertices and longest pattern 2
-abbrev pub expected : List Reply
+abbrev pub expected : List LedgerReply
 expected =
     record { number = 0; shown = shows 3 2 }
     ∷ record { number = 0; shown = shows 3 2 }
