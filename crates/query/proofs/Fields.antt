@@ -2,50 +2,53 @@
 use mathlib.Core.Path.{_≡_, refl, sym, _∙_}
 use mathlib.Core.Bool.{Bool, true, false}
 use mathlib.Core.List.{List}
-use mathlib.Core.Logic.{⊎-elim}
-use Prim.Native.Nat.{ℕ, _+_, _*_, _/_, _%_, _^_, _≤_, _<_}
+use Prim.Native.Nat.{ℕ, _+_, _*_, _/_, _≤_, _<_}
 use native.Mathlib.Omega.{arith}
 use native.Mathlib.Decide.{ℕ-discrete, decLt}
-use lib.Bits.{bitOr}
 use lib.ListN.{length, getD, set, replicate, length-set, length-replicate, getD-replicate, List·getD-eq-default}
 use lib.Seq.{getD-set-same, getD-set-other}
 use borrow.Author.Tests.{lt-ltb}
 use Rattle.model.specs.Query.{sideOf, ownerOf, hubOf, codeOf, code?, entry?}
 use Rattle.model.proofs.Tests.{test-false, test-yields}
 use Rattle.model.proofs.IndexMemory.{Valid, test-entry}
-use Rattle.rows.proofs.Bits.{bit, one, no-bit, or-iff, one-iff}
+use Rattle.query.specs.Codes.{slots, slotOf}
 use Rattle.query.specs.Scan.{Seen, FieldEnd, Within, Hubs}
 
 -- a number of the empty table
-zeros : (k : ℕ) → getD {A = ℕ} (replicate 1024 0) k 0 ≡ 0
-zeros k = elim (decLt k 1024) [
-  | yes l ↦ getD-replicate 1024 k 0 0 l
-  | no l ↦ let h : length {A = ℕ} (replicate 1024 0) ≤ k = omega (arith, length-replicate {A = ℕ} 1024 0) in List·getD-eq-default (replicate 1024 0) 0 h
+zeros : (k : ℕ) → getD {A = ℕ} (replicate slots 0) k 0 ≡ 0
+zeros k = elim (decLt k slots) [
+  | yes l ↦ getD-replicate slots k 0 0 l
+  | no l ↦ let h : length {A = ℕ} (replicate slots 0) ≤ k = omega (arith, length-replicate {A = ℕ} slots 0) in List·getD-eq-default (replicate slots 0) 0 h
 ]
 
 -- no code yet, and one code more
-pub seen-none : (longest : ℕ) → Seen longest (replicate 1024 0)
-seen-none longest = record { long = length-replicate {A = ℕ} 1024 0; right = right }
+pub seen-none : (longest : ℕ) → Seen longest (set (replicate slots 0) 0 1)
+seen-none longest = record { long = length-set {A = ℕ} (replicate slots 0) 0 1 ∙ length-replicate {A = ℕ} slots 0; right = right }
   where
-    right : (c : ℕ) → bit (getD (replicate 1024 0) (c / 64) 0) (c % 64) ≡ 1 → code? longest c ≡ true
-    right c e = absurd (no-bit (c % 64) (rw (zeros (c / 64)) at e))
-
-pub seen-more : {longest code : ℕ} {seen : List ℕ} → code < 2 ^ 16 → Seen longest seen → code? longest code ≡ true
-    → Seen longest (set seen (code / 64) (bitOr (getD seen (code / 64) 0) (one (code % 64))))
-seen-more {longest} {code} {seen} l m q = record { long = length-set seen _ _ ∙ m .long; right = right }
-  where
-    v : ℕ
-    v = bitOr (getD seen (code / 64) 0) (one (code % 64))
-
-    right : (c : ℕ) → bit (getD (set seen (code / 64) v) (c / 64) 0) (c % 64) ≡ 1 → code? longest c ≡ true
-    right c e = elim (ℕ-discrete (c / 64) (code / 64)) [
+    right : (c : ℕ) → getD (set (replicate slots 0) 0 1) (slotOf c) 0 ≡ c → code? longest c ≡ true
+    right c e = elim (ℕ-discrete (slotOf c) 0) [
       | yes p ↦
-          let same : getD (set seen (code / 64) v) (c / 64) 0 ≡ v = rw p (getD-set-same seen (code / 64) v 0 (omega (arith, m .long))) in
-          ⊎-elim
-          (λ b. m .right c (rw p b))
-          (λ b. let f : c % 64 ≡ code % 64 = one-iff (code % 64) (c % 64) (omega arith) .0 b in let g : c ≡ code = omega arith in rw g q)
-          (or-iff (getD seen (code / 64) 0) (one (code % 64)) (c % 64) .0 (rw same at e))
-      | no p ↦ m .right c (rw (getD-set-other seen (code / 64) (c / 64) v 0 p) at e)
+          let one : getD {A = ℕ} (set (replicate slots 0) 0 1) (slotOf c) 0 ≡ 1 =
+          rw p (getD-set-same {A = ℕ} (replicate slots 0) 0 1 0 (omega (arith, length-replicate {A = ℕ} slots 0))) in
+          let f : c ≡ 1 = sym e ∙ one in
+          let z : slotOf 1 ≡ 0 = rw f at p in
+          absurd (omega arith)
+      | no p ↦
+          let none : getD {A = ℕ} (set (replicate slots 0) 0 1) (slotOf c) 0 ≡ 0 = getD-set-other {A = ℕ} (replicate slots 0) 0 (slotOf c) 1 0 p ∙ zeros (slotOf c) in
+          let f : c ≡ 0 = sym e ∙ none in
+          absurd (p (rw f refl))
+    ]
+
+pub seen-more : {longest : ℕ} {seen : List ℕ} (code : ℕ) → Seen longest seen → code? longest code ≡ true → Seen longest (set seen (slotOf code) code)
+seen-more {longest} {seen} code m q = record { long = length-set seen _ _ ∙ m .long; right = right }
+  where
+    right : (c : ℕ) → getD (set seen (slotOf code) code) (slotOf c) 0 ≡ c → code? longest c ≡ true
+    right c e = elim (ℕ-discrete (slotOf c) (slotOf code)) [
+      | yes p ↦
+          let same : getD (set seen (slotOf code) code) (slotOf c) 0 ≡ code = rw p (getD-set-same seen (slotOf code) code 0 (omega (arith, m .long))) in
+          let g : c ≡ code = sym e ∙ same in
+          rw g q
+      | no p ↦ m .right c (sym (getD-set-other seen (slotOf code) (slotOf c) code 0 p) ∙ e)
     ]
 
 -- a number with a wrong field is no entry

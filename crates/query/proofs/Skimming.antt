@@ -2,11 +2,12 @@
 use mathlib.Core.Path.{_≡_, refl, _∙_}
 use mathlib.Core.Bool.{true, false}
 use mathlib.Core.List.{List}
-use Prim.Native.Nat.{ℕ, _+_, _/_, _%_, _^_, _≤_, _<_}
+use Prim.Native.Nat.{ℕ, _+_, _≤_, _<_}
 use native.Mathlib.Omega.{arith}
 use lib.ListN.{length, getD, drop, List·getD-eq-default}
-use Rattle.model.specs.Query.{entry?}
+use Rattle.model.specs.Query.{codeOf, entry?}
 use Rattle.query.specs.Memory.{scanFrom}
+use Rattle.query.specs.Codes.{slotOf}
 use Rattle.query.specs.Scan.{Seen, Within, Hubs, Skims}
 use Rattle.query.specs.Parts.{lowOf}
 use Rattle.query.specs.declared.Stop.the-variants.{Rest, Fresh, Stray}
@@ -43,7 +44,7 @@ module _ {index : List ℕ} {from prev end hubs : ℕ} {seen : List ℕ} where
       }
 
       pub skim-more : getD index i 0 < end → lowOf (getD index i 0) < hubs
-          → getD seen (getD index i 0 % 65536 / 64) 0 / 2 ^ (getD index i 0 % 65536 % 64) % 2 ≡ 1
+          → getD seen (slotOf (codeOf (getD index i 0))) 0 ≡ codeOf (getD index i 0)
           → Skimmed index from prev end hubs seen (i + 1) (getD index i 0)
       skim-more e o b = record {
         low = omega (arith, m .low);

@@ -1,8 +1,41 @@
--- A code of up to four hexadecimal digits.
-use mathlib.Core.Bool.{Bool, cond}
-use Prim.Native.Nat.{ℕ, _/_, _%_}
-use lib.Dec.{eqb, ltb}
+-- A code as a number: when its digits repeat, and where it is kept once it has passed.
+use mathlib.Core.Path.{_≡_}
+use mathlib.Core.Bool.{Bool, true, false}
+use mathlib.Core.List.{List}
+use Prim.Native.Nat.{ℕ, _+_, _*_, _/_, _%_, _^_, _≤_, _<_}
+use lib.ListN.{length}
+use Rattle.model.specs.Limits.{digitUnit, codeDigits, hubUnit}
+use Rattle.model.specs.Patterns.{times, Keyed}
+use Rattle.model.specs.Query.{digits}
 
--- fewer digits, repeated: of two or four, the first half is the second, and of three, the first two are the last two. (0 counts as such.)
-unfoldable pub repeats? : ℕ → Bool
-repeats? i = cond (ltb i 256) (eqb (i / 16) (i % 16)) (cond (ltb i 4096) (eqb (i / 16) (i % 256)) (eqb (i / 256) (i % 256)))
+-- how many slots there are for codes that have passed, and the slot of a code
+abbrev pub slots : ℕ
+slots = 8192
+
+abbrev pub slotOf : ℕ → ℕ
+slotOf c = c * 1040391 / slots % slots
+
+-- r says whether P holds
+pub record Detects (P : Type 0) (r : Bool) : Type 0 where
+  pub yields : r ≡ true → P
+  pub misses : r ≡ false → ¬ P
+
+-- l is d labels, written twice or more
+pub record Repeats (l : List ℕ) (d : ℕ) : Type 0 where
+  pub word : List ℕ
+  pub often : ℕ
+  pub long : length word ≡ d
+  pub twice : 2 ≤ often
+  pub is : times often word ≡ l
+
+-- a code whose digits are labels
+pub record Spelled (c : ℕ) : Type 0 where
+  pub below : c < hubUnit
+  pub keyed : Keyed codeDigits (digits codeDigits c)
+
+-- such a code, and a number of digits to try, with what so many digits count up to
+pub record Repeatable (c d unit : ℕ) : Type 0 where
+  pub spelled : Spelled c
+  pub some : 1 ≤ d
+  pub twice : d + d ≤ codeDigits
+  pub is : unit ≡ digitUnit ^ d

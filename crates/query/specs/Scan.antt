@@ -2,21 +2,22 @@
 use mathlib.Core.Path.{_≡_}
 use mathlib.Core.Bool.{Bool, true, false, cond}
 use mathlib.Core.List.{List}
-use Prim.Native.Nat.{ℕ, _+_, _/_, _%_, _^_, _≤_, _<_}
+use Prim.Native.Nat.{ℕ, _+_, _≤_, _<_}
 use lib.ListN.{length, getD, drop}
 use Rattle.model.specs.Edges.{zeros?}
 use Rattle.model.specs.Query.{sideOf, ownerOf, hubOf, code?, entry?}
 use Rattle.query.specs.Memory.{scanFrom}
+use Rattle.query.specs.Codes.{slots, slotOf}
 use Rattle.query.specs.Parts.{lowOf}
 use Rattle.query.specs.declared.Scanned.{Scanned}
 use Rattle.query.specs.declared.Scanned.the-variants.{Entries, Invalid}
 use Rattle.query.specs.declared.Stop.{Stop}
 use Rattle.query.specs.declared.Stop.the-variants.{Rest, Fresh, Stray}
 
--- each bit that is set stands for a code
+-- what is found in its slot is a code
 pub record Seen (longest : ℕ) (seen : List ℕ) : Type 0 where
-  pub long : length seen ≡ 1024
-  pub right : (c : ℕ) → getD seen (c / 64) 0 / 2 ^ (c % 64) % 2 ≡ 1 → code? longest c ≡ true
+  pub long : length seen ≡ slots
+  pub right : (c : ℕ) → getD seen (slotOf c) 0 ≡ c → code? longest c ≡ true
 
 pub record Looks (vertices longest x : ℕ) (seen′ : List ℕ) (r : Bool) : Type 0 where
   pub is : r ≡ entry? vertices longest x

@@ -3,18 +3,18 @@ use model::Answer;
 use model::QueryReply;
 use model::Refusal;
 ghost use mathlib.Core.Path.{_≡_};
-ghost use mathlib.Core.Bool.{Bool, _&&_};
-ghost use Prim.Native.Nat.{_≤_, _<_, _^_};
+ghost use mathlib.Core.Bool.{not};
+ghost use Prim.Native.Nat.{_≤_, _<_};
 ghost use lib.ListN.{length};
 ghost use Rattle.model.specs.Lists.{Rising, Bracket, mem?};
-ghost use Rattle.model.specs.Limits.{mostLongest};
-ghost use Rattle.model.specs.Edges.{zeros?, label?};
-ghost use Rattle.model.specs.Patterns.{Keyed};
-ghost use Rattle.model.specs.Query.{code?};
+ghost use Rattle.model.specs.Limits.{mostLongest, codeDigits, hubUnit};
+ghost use Rattle.model.specs.Edges.{zeros?};
+ghost use Rattle.model.specs.Patterns.{Keyed, keyed?, own?};
+ghost use Rattle.model.specs.Query.{digits, code?};
 ghost use Rattle.model.specs.Replies.{answeredOf};
 ghost use Rattle.calls.specs.Query.{queryCall};
 ghost use Rattle.query.specs.Memory.{scanOf, Says};
-ghost use Rattle.query.specs.Codes.{repeats?};
+ghost use Rattle.query.specs.Codes.{slotOf, Detects, Repeats, Spelled, Repeatable};
 ghost use Rattle.query.specs.Scan.{Seen, Looks, FieldEnd, Skims};
 ghost use Rattle.query.specs.Parts.{Listed, Joins};
 ghost use Rattle.query.specs.Call.{Checks};
@@ -32,60 +32,91 @@ pub enum Scanned {
     Invalid,
 }
 
-fn is_label(label: u64) -> bool
-    ensures { λ r. ⌜ r ≡ label? label ⌝ }
+// How many slots there are for codes that have passed. With this multiplier nearly all of the 4,600 codes of four digits have a slot of their own.
+const SLOTS: usize = 8192;
+
+const MULTIPLIER: u64 = 1040391;
+
+// The slot of a code.
+fn slot(code: u64) -> usize
+    requires { ⌜ code < hubUnit ⌝ }
+    ensures { λ r. ⌜ r ≡ slotOf code ⌝ }
 {
-    if label < 1 {
-        return false;
-    }
-    label <= 8
+    (code * MULTIPLIER / SLOTS as u64 % SLOTS as u64) as usize
 }
 
-fn are_labels(first: u64, second: u64) -> bool
-    ensures { λ r. ⌜ r ≡ label? first && label? second ⌝ }
+// Whether the digits of a code are 1 to `longest` labels.
+fn are_labels(longest: u32, code: u64) -> bool
+    requires { ⌜ code < hubUnit ⌝ }
+    ensures { λ r. ⌜ r ≡ keyed? longest (digits codeDigits code) ⌝ }
 {
-    if is_label(first) {
-        return is_label(second);
+    let mut rest = code;
+    let mut length = 0;
+    let mut i = 0;
+    while i < model::CODE_DIGITS {
+        // 1 if digits are left, else 0, without a branch: codes of all lengths are mixed
+        let some = (rest + (model::HUB_UNIT - 1)) / model::HUB_UNIT;
+        if model::MOST_LABEL as u64 <= (rest - some) % model::DIGIT_UNIT {
+            return false;
+        }
+        rest = rest / model::DIGIT_UNIT;
+        length += some;
+        i += 1;
+    }
+    if length < 1 {
+        return false;
+    }
+    length <= longest as u64
+}
+
+// Whether the last d digits of a code, written twice or more, give it. They count up to `unit`.
+fn repeats_by(code: u64, d: usize, unit: u64) -> bool
+    requires { ⌜ Repeatable code d unit ⌝ }
+    ensures { λ r. ⌜ Detects (Repeats (digits codeDigits code) d) r ⌝ }
+{
+    let last = code % unit;
+    let mut word = last;
+    let mut length = d + d;
+    while length <= model::CODE_DIGITS {
+        word = word * unit + last;
+        if word == code {
+            return true;
+        }
+        length += d;
     }
     false
 }
 
-// Whether the digits of a code are fewer digits, repeated.
+// Whether the digits of a code are fewer digits, written twice or more.
 fn repeats(code: u64) -> bool
-    ensures { λ r. ⌜ r ≡ repeats? code ⌝ }
+    requires { ⌜ Spelled code ⌝ }
+    ensures { λ r. ⌜ r ≡ not (own? (digits codeDigits code)) ⌝ }
 {
-    if code < 256 {
-        return code / 16 == code % 16;
+    let mut d = 1;
+    let mut unit = model::DIGIT_UNIT;
+    while d + d <= model::CODE_DIGITS {
+        if repeats_by(code, d, unit) {
+            return true;
+        }
+        d += 1;
+        unit = unit * model::DIGIT_UNIT;
     }
-    if code < 4096 {
-        return code / 16 == code % 256;
-    }
-    code / 256 == code % 256
+    false
 }
 
 // Whether a code is that of a pattern of at most `longest` labels that is its own minimum repeat.
 pub fn is_code(longest: u32, code: u64) -> bool
-    requires { ⌜ code < 2 ^ 16 ⌝ }
+    requires { ⌜ code < hubUnit ⌝ }
     ensures { λ r. ⌜ r ≡ code? longest code ⌝ }
 {
-    // each 1 where the code lacks that digit, else 0, without a branch: codes of all lengths are mixed
-    let no_a = (16 - code / 4096) / 16;
-    let no_b = (256 - code / 256) / 256;
-    let no_c = (4096 - code / 16) / 4096;
-    if longest as u64 + no_a + no_b + no_c < 4 {
-        return false;
-    }
-    if repeats(code) {
-        return false;
-    }
-    if are_labels(code / 4096 + no_a, code / 256 % 16 + no_b) {
-        return are_labels(code / 16 % 16 + no_c, code % 16);
+    if are_labels(longest, code) {
+        return !repeats(code);
     }
     false
 }
 
-// Whether x is an entry of the graph. If it is, the bit of `seen` for its code is set, which spares the next with that code the test.
-fn is_entry(vertices: u32, longest: u32, x: u64, seen: &mut [u64]) -> bool
+// Whether x is an entry of the graph. If it is, its code is kept in `seen`, which spares the next with that code the test.
+fn is_entry(vertices: u32, longest: u32, x: u64, seen: &mut [u16; SLOTS]) -> bool
     requires { ⌜ Seen longest (now seen) ⌝ }
     ensures { λ r. ⌜ Looks vertices longest x (now (seen .exit)) r ⌝ }
 {
@@ -100,8 +131,8 @@ fn is_entry(vertices: u32, longest: u32, x: u64, seen: &mut [u64]) -> bool
     }
     let code = x % HUB;
     if is_code(longest, code) {
-        let at = (code / 64) as usize;
-        seen[at] = seen[at] | (1 << (code % 64));
+        let at = slot(code);
+        seen[at] = code as u16;
         return true;
     }
     false
@@ -141,8 +172,8 @@ enum Stop {
 }
 
 // Goes on over the entries that rise, are below `end`, are below `hubs` by hub and code, and have a code that was seen, as nearly all do.
-fn skim(index: &[u64], from: usize, prev: u64, end: u64, hubs: u64, seen: &[u64]) -> Stop
-    requires { ⌜ (from ≤ length (now index)) × (length (now seen) ≡ 1024) ⌝ }
+fn skim(index: &[u64], from: usize, prev: u64, end: u64, hubs: u64, seen: &[u16; SLOTS]) -> Stop
+    requires { ⌜ from ≤ length (now index) ⌝ }
     ensures { λ r. ⌜ Skims (now (index .entry)) from prev end hubs (now (seen .entry)) r ⌝ }
 {
     let mut i = from;
@@ -159,7 +190,8 @@ fn skim(index: &[u64], from: usize, prev: u64, end: u64, hubs: u64, seen: &[u64]
             return Stop::Stray;
         }
         let code = x % HUB;
-        if (seen[(code / 64) as usize] >> (code % 64)) % 2 == 1 {
+        let at = slot(code);
+        if seen[at] == code as u16 {
             last = x;
             i += 1;
         } else {
@@ -173,7 +205,9 @@ fn skim(index: &[u64], from: usize, prev: u64, end: u64, hubs: u64, seen: &[u64]
 pub fn scan(vertices: u32, longest: u32, index: &[u64]) -> Scanned
     ensures { λ r. ⌜ r ≡ scanOf vertices longest (now (index .entry)) ⌝ }
 {
-    let mut seen = [0u64; 1024];
+    // no code is kept yet; as 0 is none, its slot, 0, holds another number
+    let mut seen = [0u16; SLOTS];
+    seen[0] = 1;
     let n = field_end(vertices);
     let mut i = 0;
     let mut prev: u64 = 0;

@@ -1,20 +1,67 @@
--- `query::are_labels` meets its contract.
+-- `query::are_labels` meets its contract. The invariant: the digits of the rest decide.
 use mathlib.Core.Path.{sym, _∙_}
+use Prim.Native.Nat.{_-_}
+use native.Mathlib.Omega.{arith}
 use borrow.Author.Needs.{needs}
+use borrow.Author.Tests.{le-leb, lt-leb}
+use Rattle.model.specs.Limits.{codeDigits}
+use Rattle.query.proofs.Codes.{Left, left-start, left-more, left-other, left-end}
 use Rattle.query.proofs.are_labels.Statement.{statement}
 use Rattle.query.proofs.are_labels.Tie as tie
 
-is-label-requires : tie.Need-is-label-requires
-is-label-requires c κs = search needs
+abbrev Inv-loop : tie.InvT-loop
+Inv-loop longest code rest₀ length₀ i₀ rest length i = Left longest code length i rest
 
-is-label-requires-2 : tie.Need-is-label-requires-2
-is-label-requires-2 c κs = search needs
+abbrev μ-loop : tie.MeasureT-loop
+μ-loop longest code rest₀ length₀ i₀ rest length i = codeDigits - i
 
-returns : tie.Need-returns
-returns c = simp (sym (c .before .before .is-label .ensures) ∙ c .before .if1 .taken, c .is-label2 .ensures)
+loop-holds : tie.Need-loop-holds Inv-loop μ-loop
+loop-holds c = left-start _ _ (c .pre)
 
-returns-2 : tie.Need-returns-2
-returns-2 c = simp (sym (c .before .is-label .ensures) ∙ c .if1 .left)
+sub-some : tie.Need-sub-some Inv-loop μ-loop
+sub-some c = search needs
+
+add-some : tie.Need-add-some Inv-loop μ-loop
+add-some c = let m = c .before .loop .inv in search needs
+
+sub-if1 : tie.Need-sub-if1 Inv-loop μ-loop
+sub-if1 c = let m = c .before .loop .inv in search needs
+
+returns : tie.Need-returns Inv-loop μ-loop
+returns c = left-other (c .before .before .loop .inv) (c .before .loop-test .taken) (omega (arith, c .if1 .taken))
+
+add-length : tie.Need-add-length Inv-loop μ-loop
+add-length c = let m = c .before .before .loop .inv in search needs
+
+add-i : tie.Need-add-i Inv-loop μ-loop
+add-i c = let m = c .before .before .loop .inv in search needs
+
+loop-less : tie.Need-loop-less Inv-loop μ-loop
+loop-less c = search needs
+
+loop-again : tie.Need-loop-again Inv-loop μ-loop
+loop-again c = left-more (c .before .before .loop .inv) (c .before .loop-test .taken) (omega (arith, c .if1 .left))
+
+returns-2 : tie.Need-returns-2 Inv-loop μ-loop
+returns-2 c = sym (left-end (c .before .before .loop .inv) (c .before .loop-test .left) ∙ simp (lt-leb _ _ (c .if2 .taken)))
+
+returns-3 : tie.Need-returns-3 Inv-loop μ-loop
+returns-3 c = sym (left-end (c .before .before .loop .inv) (c .before .loop-test .left) ∙ simp (le-leb _ _ (c .if2 .left)))
 
 pub are-labels-spec : {M : Type 1} → statement M
-are-labels-spec = tie.close (tie.spec is-label-requires is-label-requires-2 returns returns-2)
+are-labels-spec =
+    tie.close
+    (tie.spec
+    Inv-loop
+    μ-loop
+    loop-holds
+    sub-some
+    add-some
+    sub-if1
+    returns
+    add-length
+    add-i
+    loop-less
+    loop-again
+    returns-2
+    returns-3)

@@ -66,6 +66,9 @@ fresh : (c : tie.After-stop2 Inv-loop μ-loop) (b : Bool)
     ≡ whole (c .before .before)
 fresh c b e = sym (rw e at (skimmed (c .before .before) (c .stop2 .given .1)))
 
+array-write-seen : tie.Need-array-write-seen Inv-loop μ-loop
+array-write-seen c = search needs
+
 field-end-requires : tie.Need-field-end-requires Inv-loop μ-loop
 field-end-requires c κs = search needs
 
@@ -75,11 +78,8 @@ loop-holds c = (omega arith, (scan-start _ _ _, (seen-none _, record { side = λ
 mul-skim : tie.Need-mul-skim Inv-loop μ-loop
 mul-skim c = search needs
 
-slice-aggregate-skim : tie.Need-slice-aggregate-skim Inv-loop μ-loop
-slice-aggregate-skim c = search needs
-
 skim-requires : tie.Need-skim-requires Inv-loop μ-loop
-skim-requires c κs = (c .before .loop .inv .0, c .before .loop .inv .1 .1 .0 .long)
+skim-requires c κs = c .before .loop .inv .0
 
 enum-told : tie.Need-enum-told Inv-loop μ-loop
 enum-told c = search needs
@@ -120,18 +120,15 @@ mul-prev c = let h = fresh-slot (c .before) in search needs
 shared-slice-read-prev : tie.Need-shared-slice-read-prev Inv-loop μ-loop
 shared-slice-read-prev c = let h = fresh-slot (c .before .before) in search needs
 
-slice-aggregate-is-entry : tie.Need-slice-aggregate-is-entry Inv-loop μ-loop
-slice-aggregate-is-entry c = search needs
-
 is-entry-requires : tie.Need-is-entry-requires Inv-loop μ-loop
 is-entry-requires c κs = c .before .before .before .before .before .before .before .loop .inv .1 .1 .0
 
 abbrev stop : tie.Then2 Inv-loop μ-loop → tie.After-stop2 Inv-loop μ-loop
-stop c = c .before .before .before .before .before .before
+stop c = c .before .before .before .before .before
 
 entry : (c : tie.Then2 Inv-loop μ-loop)
     → entry? (start (stop c .before .before) .args .vertices) (start (stop c .before .before) .args .longest) (getD (slots (stop c .before .before)) (stop c .stop2 .given .0 .0) 0) ≡ true
-entry c = sym (c .before .before .is-entry .ensures .is) ∙ c .if2 .taken
+entry c = sym (c .before .is-entry .ensures .is) ∙ c .if2 .taken
 
 side : (c : tie.Then2 Inv-loop μ-loop) → sideOf (getD (slots (stop c .before .before)) (stop c .stop2 .given .0 .0) 0) < 2
 side c = entry-side (start (stop c .before .before) .args .vertices) _ _ (entry c)
@@ -153,12 +150,12 @@ loop-less c = let h = fresh-slot (stop c) in omega arith
 
 loop-again : tie.Need-loop-again Inv-loop μ-loop
 loop-again c =
-    let seen = c .before .before .is-entry .ensures in
-    let first = c .before .before .before .before .before .before .before .before .before .before .before in
+    let seen = c .before .is-entry .ensures in
+    let first = stop c .before .before .before .before .before in
     (omega (arith, fresh-slot (stop c)), (fresh (stop c) true (entry c), (seen .seen, within (first .field-end .ensures) _ (side c))))
 
 returns-4 : tie.Need-returns-4 Inv-loop μ-loop
-returns-4 c = fresh (c .before .before .before .before .before .before) false (sym (c .before .before .is-entry .ensures .is) ∙ c .if2 .left)
+returns-4 c = fresh (c .before .before .before .before .before) false (sym (c .before .is-entry .ensures .is) ∙ c .if2 .left)
 
 pub scan-spec : {M : Type 1} → statement M
 scan-spec =
@@ -166,10 +163,10 @@ scan-spec =
     (tie.spec
     Inv-loop
     μ-loop
+    array-write-seen
     field-end-requires
     loop-holds
     mul-skim
-    slice-aggregate-skim
     skim-requires
     enum-told
     returns
@@ -184,7 +181,6 @@ scan-spec =
     enum-known-stop-2
     mul-prev
     shared-slice-read-prev
-    slice-aggregate-is-entry
     is-entry-requires
     mul-end
     mul-end-2

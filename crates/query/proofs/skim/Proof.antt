@@ -14,7 +14,7 @@ abbrev μ-loop : tie.MeasureT-loop
 μ-loop index from prev end hubs seen i₀ last₀ i last = length index - i
 
 loop-holds : tie.Need-loop-holds Inv-loop μ-loop
-loop-holds c = skim-start (c .pre .0)
+loop-holds c = skim-start (c .before .pre)
 
 mul-x : tie.Need-mul-x Inv-loop μ-loop
 mul-x c = search needs
@@ -35,14 +35,17 @@ returns-3 c =
     let t = c .before .before .before .before in
     skim-stray (t .before .loop .inv) (t .loop-test .taken) (c .before .before .if1 .left) (c .if3 .taken)
 
+slot-requires : tie.Need-slot-requires Inv-loop μ-loop
+slot-requires c κs = search needs
+
 mul-if4 : tie.Need-mul-if4 Inv-loop μ-loop
 mul-if4 c = search needs
 
-shared-slice-read-if4 : tie.Need-shared-slice-read-if4 Inv-loop μ-loop
-shared-slice-read-if4 c = search needs
+element-copy-out-if4 : tie.Need-element-copy-out-if4 Inv-loop μ-loop
+element-copy-out-if4 c = search needs
 
-shr-if4 : tie.Need-shr-if4 Inv-loop μ-loop
-shr-if4 c = search needs
+cast-if4 : tie.Need-cast-if4 Inv-loop μ-loop
+cast-if4 c = search needs
 
 add-i : tie.Need-add-i Inv-loop μ-loop
 add-i c = search needs
@@ -52,13 +55,13 @@ loop-less c = search needs
 
 loop-again : tie.Need-loop-again Inv-loop μ-loop
 loop-again c =
-    let n = c .before .before in
+    let n = c .before .before .before in
     let t = n .before .before .before .before in
-    skim-more (t .before .loop .inv) (t .loop-test .taken) (n .before .before .if1 .left) (n .before .if2 .left) (n .if3 .left) (c .if4 .taken)
+    skim-more (t .before .loop .inv) (t .loop-test .taken) (n .before .before .if1 .left) (n .before .if2 .left) (n .if3 .left) (rw (c .before .before .slot .ensures) at (c .if4 .taken))
 
 returns-4 : tie.Need-returns-4 Inv-loop μ-loop
 returns-4 c =
-    let n = c .before .before in
+    let n = c .before .before .before in
     let t = n .before .before .before .before in
     skim-fresh (t .before .loop .inv) (t .loop-test .taken) (n .before .before .if1 .left)
 
@@ -77,9 +80,10 @@ skim-spec =
     returns
     returns-2
     returns-3
+    slot-requires
     mul-if4
-    shared-slice-read-if4
-    shr-if4
+    element-copy-out-if4
+    cast-if4
     add-i
     loop-less
     loop-again
