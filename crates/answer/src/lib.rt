@@ -1,0 +1,93 @@
+// The answer to a query from the entries of an index: an owner's list as a part of the index, and the joining of two lists.
+ghost use mathlib.Core.Path.{_≡_};
+ghost use Prim.Native.Nat.{_<_};
+ghost use Rattle.model.specs.Lists.{Rising, Bracket, mem?};
+ghost use Rattle.model.specs.Limits.{mostLongest};
+ghost use Rattle.model.specs.Patterns.{Keyed};
+ghost use Rattle.answer.specs.Parts.{Listed, Joins};
+ghost use Rattle.answer.specs.Saying.{Says};
+
+// What the fields of an entry are multiplied by. Hub and code together are what is below OWNER.
+const HUB: u64 = 65536;
+
+const OWNER: u64 = 16777216;
+
+const SIDE: u64 = 4294967296;
+
+// The first slot whose entry is not below key, by binary search.
+fn lower_bound(index: &[u64], key: u64) -> usize
+    requires { ⌜ Rising (now index) ⌝ }
+    ensures { λ r. ⌜ Bracket (now (index .entry)) key r r ⌝ }
+{
+    let mut lo = 0;
+    let mut hi = index.len();
+    while lo < hi {
+        let mid = lo + (hi - lo) / 2;
+        if index[mid] < key {
+            lo = mid + 1;
+        } else {
+            hi = mid;
+        }
+    }
+    lo
+}
+
+fn has(index: &[u64], entry: u64) -> bool
+    requires { ⌜ Rising (now index) ⌝ }
+    ensures { λ r. ⌜ r ≡ mem? «entry» (now (index .entry)) ⌝ }
+{
+    let i = lower_bound(index, entry);
+    if i < index.len() {
+        return index[i] == entry;
+    }
+    false
+}
+
+// Whether an out list and an in list share a hub with the code. Both rise by hub, so the in list goes on where it stood.
+fn join(out: &[u64], into: &[u64], code: u64) -> bool
+    requires { ⌜ Listed (now out) × Listed (now into) ⌝ }
+    ensures { λ r. ⌜ Joins (now (out .entry)) (now (into .entry)) code r ⌝ }
+{
+    let mut found = false;
+    let mut i = 0;
+    let mut j = 0;
+    'join: while i < out.len() {
+        let x = out[i] % OWNER;
+        if x % HUB == code {
+            while j < into.len() {
+                let z = into[j] % OWNER;
+                if x == z {
+                    found = true;
+                    break 'join;
+                }
+                if x < z {
+                    break;
+                }
+                j += 1;
+            }
+        }
+        i += 1;
+    }
+    found
+}
+
+// What follows check 12: the query by a pattern that is its own minimum repeat, put to the entries alone (no zeros behind them).
+pub fn answer(index: &[u64], start: u32, destination: u32, pattern: &[u8]) -> bool
+    requires { ⌜ Rising (now index) × (Keyed mostLongest (now pattern) × ((start < 256) × (destination < 256))) ⌝ }
+    ensures { λ r. ⌜ Says (now (index .entry)) (now (pattern .entry)) start destination r ⌝ }
+{
+    let code = patterns::code(pattern);
+    let out = start as u64 * OWNER;
+    let into = SIDE + destination as u64 * OWNER;
+    if has(index, out + destination as u64 * HUB + code) {
+        return true;
+    }
+    if has(index, into + start as u64 * HUB + code) {
+        return true;
+    }
+    let a = lower_bound(index, out);
+    let b = lower_bound(index, out + OWNER);
+    let c = lower_bound(index, into);
+    let d = lower_bound(index, into + OWNER);
+    join(&index[a..b], &index[c..d], code)
+}

@@ -1,0 +1,311 @@
+-- The test of a code: its digits one by one from the last, and whether they are fewer digits, written twice or more.
+use mathlib.Core.Path.{_≡_, refl, sym, ap, _∙_}
+use mathlib.Core.Bool.{Bool, true, false, _&&_, and-true, and-false, and-assoc}
+use mathlib.Core.List.{List, [], _∷_, _++_, Memᴰ·append-left, Memᴰ·append-right}
+use Prim.Native.Nat.{ℕ, zero, suc, _+_, _*_, _-_, _/_, _%_, _^_, _≤_, _<_}
+use native.Mathlib.Nat.{zero-mul, zero-add, suc-mul, mul-le-mul-right, one-le-pow, le-mul-of-pos-right, mod-eq-of-lt, pow-suc, pow-le-pow-right, mod-lt}
+use native.Mathlib.Numerals.{add-one}
+use native.Mathlib.Decide.{ℕ-discrete, decLt}
+use native.Mathlib.Omega.{arith}
+use lib.Dec.{ltb}
+use lib.Pow.{pow-add}
+use lib.ListN.{length, take, drop, length-append, length-drop, take-append-drop}
+use borrow.Author.Tests.{lt-ltb, le-ltb}
+use Rattle.model.specs.Lists.{all?, within?}
+use Rattle.model.specs.Limits.{mostLabel, digitUnit, codeDigits, hubUnit}
+use Rattle.model.specs.Edges.{label?}
+use Rattle.model.specs.Patterns.{times, minRepeat, keyed?, own?, code}
+use Rattle.model.specs.Query.{digits, code?}
+use Rattle.model.proofs.Tests.{test-map, test-agree, test-and, test-le, test-lt, test-same, test-false, test-yields, test-fails, both-ways}
+use Rattle.model.proofs.Lists.{Below, below-more}
+use Rattle.model.proofs.Patterns.{Digits, length-times, times-pos, times-one, min-repeat, test-own, test-keyed}
+use Rattle.model.proofs.Codes.{digits-zero, digits-end, digits-more, digits-short, code-one, code-short, code-end, times-in, written, code-times, written-last, written-more, code-digits}
+use Rattle.scan.specs.Codes.{Detects, Repeats, Spelled, Repeatable}
+
+-- ---- labels
+
+-- whether digits are left, as a number
+abbrev pub someOf : ℕ → ℕ
+someOf rest = (rest + (hubUnit - 1)) / hubUnit
+
+all-last : (f : ℕ → Bool) (l : List ℕ) (x : ℕ) → all? f (l ++ (x ∷ [])) ≡ all? f l && f x
+unfolding all?
+all-last f [] x = and-true (f x)
+all-last f (y ∷ l) x = ap (λ (b : Bool). f y && b) (all-last f l x) ∙ sym (and-assoc (f y) (all? f l) (f x))
+
+-- a digit is a label if it is one of 1 to 8
+label-digit : (x : ℕ) → label? ((x + 1) % digitUnit) ≡ ltb (x % digitUnit) mostLabel
+label-digit x = test-agree (test-and (test-le 1 ((x + 1) % digitUnit)) (test-le ((x + 1) % digitUnit) mostLabel))
+    (test-map (λ h. (omega arith, omega arith)) (λ (a, b). omega arith) (test-lt (x % digitUnit) mostLabel))
+
+module _ (g rest : ℕ) (low : rest < hubUnit) where
+  length-step : length (digits (suc g) rest) ≡ someOf rest + length (digits g (rest / digitUnit))
+  length-step = elim (ℕ-discrete rest 0) [
+    | yes e ↦ rw (e, digits-zero (suc g), digits-zero g) refl
+    | no e ↦ rw (digits-more g rest (omega arith)) (omega (arith, length-append (digits g (rest / digitUnit)) (rest % digitUnit ∷ [])))
+  ]
+
+  labels-step : all? label? (digits (suc g) rest) ≡ all? label? (digits g (rest / digitUnit)) && ltb ((rest - someOf rest) % digitUnit) mostLabel
+  unfolding all?
+  labels-step = elim (ℕ-discrete rest 0) [
+    | yes e ↦ rw (e, digits-zero (suc g), digits-zero g) refl
+    | no e ↦
+        let one : rest - someOf rest ≡ rest - 1 = omega arith in
+        let next : rest - 1 + 1 ≡ rest = omega arith in
+        rw (digits-more g rest (omega arith), one) (all-last label? (digits g (rest / digitUnit)) (rest % digitUnit)
+        ∙ ap (λ (b : Bool). all? label? (digits g (rest / digitUnit)) && b) (rw next at (label-digit (rest - 1))))
+  ]
+
+-- of the last i digits n are there, all labels, and those of the rest decide
+pub record Left (longest c n i rest : ℕ) : Type 0 where
+  pub f : ℕ
+  pub room : f + i ≡ codeDigits
+  pub count : n ≤ i
+  pub low : rest < hubUnit
+  pub same : keyed? longest (digits codeDigits c) ≡ within? 1 longest (n + length (digits f rest)) && all? label? (digits f rest)
+
+pub left-start : (longest c : ℕ) → c < hubUnit → Left longest c 0 0 c
+unfolding keyed?
+left-start longest c h =
+    let size : 0 + length (digits codeDigits c) ≡ length (digits codeDigits c) = omega arith in
+    record { f = codeDigits; room = refl; count = omega arith; low = h; same = rw size refl }
+
+module _ (longest c n i rest : ℕ) (short : i < codeDigits) (count : n ≤ i) (low : rest < hubUnit) where
+  -- one digit more is looked at
+  step : (f : ℕ) → f + i ≡ codeDigits → (b : Bool) → ltb ((rest - someOf rest) % digitUnit) mostLabel ≡ b
+      → (g : ℕ) × (g + (i + 1) ≡ codeDigits)
+      × (within? 1 longest (n + length (digits f rest)) && all? label? (digits f rest)
+      ≡ within? 1 longest (n + someOf rest + length (digits g (rest / digitUnit))) && (all? label? (digits g (rest / digitUnit)) && b))
+  step zero r b t = absurd (omega arith)
+  step (suc g) r b t =
+      let size : n + length (digits (suc g) rest) ≡ n + someOf rest + length (digits g (rest / digitUnit)) = omega (arith, length-step g rest low) in
+      (g, omega arith, rw (size, labels-step g rest low, t) refl)
+
+module _ {longest c n i rest : ℕ} (m : Left longest c n i rest) where
+  pub left-more : i < codeDigits → (rest - someOf rest) % digitUnit < mostLabel → Left longest c (n + someOf rest) (i + 1) (rest / digitUnit)
+  left-more h t =
+      let (g, room, same) = step longest c n i rest h (m .count) (m .low) (m .f) (m .room) true (lt-ltb _ _ t) in
+      record {
+        f = g;
+        room = room;
+        count = omega (arith, m .count, m .low);
+        low = omega (arith, m .low);
+        same = m .same ∙ same ∙ rw (and-true (all? label? (digits g (rest / digitUnit)))) refl;
+      }
+
+  pub left-other : i < codeDigits → mostLabel ≤ (rest - someOf rest) % digitUnit → false ≡ keyed? longest (digits codeDigits c)
+  left-other h t =
+      let (g, room, same) = step longest c n i rest h (m .count) (m .low) (m .f) (m .room) false (le-ltb _ _ t) in
+      sym (m .same ∙ same ∙ rw (and-false (all? label? (digits g (rest / digitUnit)))) (and-false (within? 1 longest (n + someOf rest + length (digits g (rest / digitUnit))))))
+
+  pub left-end : codeDigits ≤ i → keyed? longest (digits codeDigits c) ≡ within? 1 longest n
+  unfolding all?
+  left-end h =
+      let last : m .f ≡ 0 = omega (arith, m .room) in
+      let empty : digits (m .f) rest ≡ [] = rw last (digits-end rest) in
+      let size : n + length (digits (m .f) rest) ≡ n = rw empty (omega arith) in
+      let labels : all? label? (digits (m .f) rest) ≡ true = rw empty refl in
+      m .same ∙ rw (size, labels) (and-true _)
+
+-- ---- fewer digits, written twice or more
+
+-- c comes among the writings that remain, the next of which has `size` digits
+pub record Remaining (c d unit last word size : ℕ) : Type 0 where
+  pub n : ℕ
+  pub fits : size + n * d ≤ codeDigits
+  pub is : written unit last word (suc n) ≡ c
+
+module _ {c d unit last word size : ℕ} where
+  remaining-here : size ≤ codeDigits → word * unit + last ≡ c → Remaining c d unit last word size
+  unfolding written
+  remaining-here h e = record { n = 0; fits = omega arith; is = e }
+
+  remaining-back : Remaining c d unit last (word * unit + last) (size + d) → Remaining c d unit last word size
+  unfolding written
+  remaining-back r = record { n = suc (r .n); fits = omega (arith, r .fits, suc-mul (r .n) d); is = r .is }
+
+  remaining-later : ¬ (word * unit + last ≡ c) → Remaining c d unit last word size → Remaining c d unit last (word * unit + last) (size + d)
+  unfolding written
+  remaining-later m r = go (r .n) (r .fits) (r .is)
+    where
+      go : (n : ℕ) → size + n * d ≤ codeDigits → written unit last word (suc n) ≡ c → Remaining c d unit last (word * unit + last) (size + d)
+      go zero h e = absurd (m e)
+      go (suc n) h e = record { n = n; fits = omega (arith, suc-mul n d); is = e }
+
+-- a code spelled by labels, and its last d digits
+module _ (c d : ℕ) (s : Spelled c) where
+  abbrev l : List ℕ
+  l = digits codeDigits c
+
+  abbrev unit : ℕ
+  unit = digitUnit ^ d
+
+  spelled : code l ≡ c
+  spelled = code-digits codeDigits c (s .below)
+
+  -- a word of d labels that is written n + 2 times
+  writes : (n : ℕ) (w : List ℕ) → length w ≡ d → code (times (suc (suc n)) w) ≡ written unit (code w) (code w) (suc n)
+  unfolding written
+  writes n w e = code-times (suc (suc n)) 0 w ∙ rw (e, zero-mul unit, zero-add (code w)) refl
+
+  size : (n : ℕ) (w : List ℕ) → length w ≡ d → length (times (suc (suc n)) w) ≡ d + d + n * d
+  size n w e = omega (arith, rw e at (length-times (suc (suc n)) w), suc-mul (suc n) d, suc-mul n d)
+
+  some : 1 ≤ c
+  some = elim (ℕ-discrete c 0) [
+    | yes e ↦ let none : digits codeDigits c ≡ [] = rw e (digits-zero codeDigits) in absurd (omega (arith, ap length none, s .keyed .long))
+    | no e ↦ omega arith
+  ]
+
+  there : (n : ℕ) (w : List ℕ) → length w ≡ d → times (suc (suc n)) w ≡ l → Remaining c d unit (c % unit) (c % unit) (d + d)
+  unfolding times
+  there n w long e =
+      let labels : Digits w = λ x m. s .keyed .labels x (rw e at (Memᴰ·append-left (times (suc n) w) m)) in
+      let is : written unit (code w) (code w) (suc n) ≡ c = sym (writes n w long) ∙ ap code e ∙ spelled in
+      let last : c % unit ≡ code w = ap (λ (m : ℕ). m % unit) (sym is) ∙ written-last unit (code w) (code w) n (rw long at (code-short w labels)) in
+      record {
+        n = n;
+        fits = omega (arith, s .keyed .short, ap length e, size n w long);
+        is = rw last is;
+      }
+
+  pub repeats-there : Repeats l d → Remaining c d unit (c % unit) (c % unit) (d + d)
+  repeats-there r = go (r .often) (r .twice) (r .is)
+    where
+      go : (j : ℕ) → 2 ≤ j → times j (r .word) ≡ l → Remaining c d unit (c % unit) (c % unit) (d + d)
+      go zero h e = absurd (omega arith)
+      go (suc zero) h e = absurd (omega arith)
+      go (suc (suc n)) h e = there n (r .word) (r .long) e
+
+  pub repeats-back : Remaining c d unit (c % unit) (c % unit) (d + d) → Repeats l d
+  unfolding written
+  repeats-back r = elim (decLt d (length l)) [
+    | yes h ↦
+        let w = drop (length l - d) l in
+        let long : length w ≡ d = omega (arith, length-drop (length l - d) l) in
+        let whole = take-append-drop (length l - d) l in
+        let labels : Digits w = λ x m. s .keyed .labels x (rw whole at (Memᴰ·append-right (take (length l - d) l) m)) in
+        let last : c % unit ≡ code w = rw (long, whole, spelled) at (code-end (take (length l - d) l) w labels) in
+        record {
+          word = w;
+          often = suc (suc (r .n));
+          long = long;
+          twice = omega arith;
+          is = code-one (omega (arith, r .fits, size (r .n) w long)) (s .keyed .short) (λ x m. labels x (times-in (suc (suc (r .n))) m)) (s .keyed .labels)
+              (writes (r .n) w long ∙ rw last at (r .is) ∙ sym spelled);
+        }
+    | no h ↦
+        let one : 1 ≤ unit = one-le-pow d digitUnit (omega arith) in
+        let below : c < unit = omega (arith, code-short l (s .keyed .labels), spelled, pow-le-pow-right {n = digitUnit} (omega arith) {i = length l} {j = d} (omega arith)) in
+        let again : written unit c (c * unit + c) (r .n) ≡ c = rw (mod-eq-of-lt below) at (r .is) in
+        absurd (omega (arith, again, written-more unit c (c * unit + c) (r .n) one, le-mul-of-pos-right c one, some))
+  ]
+
+-- the writings that remain decide; word has d digits less than the next
+pub record Trying (c d unit word size : ℕ) : Type 0 where
+  pub there : Repeats (digits codeDigits c) d → Remaining c d unit (c % unit) word size
+  pub back : Remaining c d unit (c % unit) word size → Repeats (digits codeDigits c) d
+  pub n : ℕ
+  pub fewer : n + d ≡ size
+  pub small : word < digitUnit ^ n
+
+module _ {c d unit : ℕ} (p : Repeatable c d unit) where
+  pub unit-some : 1 ≤ unit
+  unit-some = rw (p .is) (one-le-pow d digitUnit (omega arith))
+
+  pub trying-start : Trying c d unit (c % unit) (d + d)
+  trying-start = rw (p .is) (record {
+    there = repeats-there c d (p .spelled);
+    back = repeats-back c d (p .spelled);
+    n = d;
+    fewer = refl;
+    small = mod-lt c (one-le-pow d digitUnit (omega arith));
+  })
+
+  module _ {word size : ℕ} (m : Trying c d unit word size) where
+    next-small : word * unit + c % unit < digitUnit ^ size
+    next-small =
+        let more : digitUnit ^ size ≡ digitUnit ^ (m .n) * unit = rw (← (m .fewer), p .is) (pow-add digitUnit (m .n) d) in
+        omega (arith, mul-le-mul-right unit (m .small), suc-mul word unit, mod-lt c unit-some)
+
+    pub trying-fits : size ≤ codeDigits → word * unit + c % unit < hubUnit
+    trying-fits h = omega (arith, next-small, pow-le-pow-right {n = digitUnit} (omega arith) h)
+
+    pub trying-found : size ≤ codeDigits → word * unit + c % unit ≡ c → Detects (Repeats (digits codeDigits c) d) true
+    trying-found h e = record { yields = λ _. m .back (remaining-here h e); misses = λ e. absurd (let z : _≡_ {A = ℕ} 0 1 = cc in omega arith) }
+
+    pub trying-more : ¬ (word * unit + c % unit ≡ c) → Trying c d unit (word * unit + c % unit) (size + d)
+    trying-more e = record {
+      there = λ r. remaining-later e (m .there r);
+      back = λ r. m .back (remaining-back r);
+      n = size;
+      fewer = refl;
+      small = next-small;
+    }
+
+    pub trying-none : codeDigits < size → Detects (Repeats (digits codeDigits c) d) false
+    trying-none h = record {
+      yields = λ e. absurd (let z : _≡_ {A = ℕ} 0 1 = cc in omega arith);
+      misses = λ _ r. let k = m .there r in omega (arith, k .fits);
+    }
+
+-- ---- which codes repeat
+
+-- so many digits, twice at least, are no more than the code has
+module _ {c d : ℕ} (s : Spelled c) (r : Repeats (digits codeDigits c) d) where
+  pub repeats-within : d + d ≤ length (digits codeDigits c)
+  repeats-within = omega (arith, ap length (r .is), rw (r .long) at (length-times (r .often) (r .word)), mul-le-mul-right d (r .twice))
+
+  pub repeats-own : 1 ≤ d → own? (digits codeDigits c) ≡ false
+  repeats-own h = test-false (test-own (digits codeDigits c) (s .keyed .long)) (λ o. omega (arith, o .least (r .word) (r .often) (r .is), r .long, repeats-within))
+
+own-repeats : {c : ℕ} → Spelled c → own? (digits codeDigits c) ≡ false → (d : ℕ) × (1 ≤ d) × Repeats (digits codeDigits c) d
+unfolding own?
+own-repeats {c} s e = let (j, q) = min-repeat l (s .keyed .long) .often in go j (minRepeat l) q (test-fails (test-same (minRepeat l) l) e)
+  where
+    l : List ℕ
+    l = digits codeDigits c
+
+    go : (j : ℕ) (w : List ℕ) → times j w ≡ l → ¬ (w ≡ l) → (d : ℕ) × (1 ≤ d) × Repeats l d
+    go zero w q n = absurd (omega (arith, ap length q, length-times 0 w, s .keyed .long))
+    go (suc zero) w q n = absurd (n (sym (times-one w) ∙ q))
+    go (suc (suc j)) w q n =
+        (length w, times-pos (suc (suc j)) w l q (s .keyed .long), record { word = w; often = suc (suc j); long = refl; twice = omega arith; is = q })
+
+-- no number of digits below d repeats; d digits count up to unit
+pub record Unrepeated (c d unit : ℕ) : Type 0 where
+  pub some : 1 ≤ d
+  pub small : d ≤ codeDigits
+  pub is : unit ≡ digitUnit ^ d
+  pub none : Below (λ e. 1 ≤ e → ¬ Repeats (digits codeDigits c) e) d
+
+pub unrepeated-start : (c : ℕ) → Unrepeated c 1 digitUnit
+unrepeated-start c = record { some = omega arith; small = omega arith; is = refl; none = record { at = λ e h k. absurd (omega arith) } }
+
+module _ {c d unit : ℕ} (m : Unrepeated c d unit) where
+  pub unrepeated-small : unit ≤ hubUnit
+  unrepeated-small = rw (m .is) (pow-le-pow-right {n = digitUnit} (omega arith) (m .small))
+
+  pub unrepeated-more : d + d ≤ codeDigits → ¬ Repeats (digits codeDigits c) d → Unrepeated c (d + 1) (unit * digitUnit)
+  unrepeated-more h n = record {
+    some = omega arith;
+    small = omega (arith, m .some);
+    is = rw (m .is, add-one d) (sym (pow-suc digitUnit d));
+    none = below-more (m .none) (λ _. n);
+  }
+
+  pub unrepeated-end : codeDigits < d + d → Spelled c → own? (digits codeDigits c) ≡ true
+  unrepeated-end h s = both-ways (own? (digits codeDigits c)) (λ e. e) (λ e.
+      let (n, some, r) = own-repeats s e in
+      absurd (m .none .at n (omega (arith, repeats-within s r, s .keyed .short)) some r))
+
+-- ---- the whole test
+
+pub code-is : (longest c : ℕ) (b : Bool) → keyed? longest (digits codeDigits c) ≡ b → code? longest c ≡ b && own? (digits codeDigits c)
+unfolding code?
+code-is longest c b e = rw e refl
+
+pub spelled-by : (longest : ℕ) {c : ℕ} → c < hubUnit → keyed? longest (digits codeDigits c) ≡ true → Spelled c
+spelled-by longest {c} h e =
+    let p = test-yields (test-keyed longest (digits codeDigits c)) e in
+    record { below = h; keyed = record { long = p .long; short = digits-short codeDigits c; labels = p .labels } }

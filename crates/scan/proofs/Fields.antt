@@ -1,0 +1,79 @@
+-- Codes that were seen, and the ends below which side, owner and hub are right.
+use mathlib.Core.Path.{_≡_, refl, sym, _∙_}
+use mathlib.Core.Bool.{Bool, true, false}
+use mathlib.Core.List.{List}
+use Prim.Native.Nat.{ℕ, _+_, _*_, _/_, _≤_, _<_}
+use native.Mathlib.Omega.{arith}
+use native.Mathlib.Decide.{ℕ-discrete, decLt}
+use lib.ListN.{length, getD, set, replicate, length-set, length-replicate, getD-replicate, List·getD-eq-default}
+use lib.Seq.{getD-set-same, getD-set-other}
+use borrow.Author.Tests.{lt-ltb}
+use Rattle.model.specs.Query.{sideOf, ownerOf, hubOf, codeOf, code?, entry?}
+use Rattle.model.proofs.Tests.{test-false, test-yields}
+use Rattle.model.proofs.IndexMemory.{Valid, test-entry}
+use Rattle.scan.specs.Codes.{slots, slotOf}
+use Rattle.scan.specs.Scan.{Seen, FieldEnd, Within, Hubs}
+
+-- a number of the empty table
+zeros : (k : ℕ) → getD {A = ℕ} (replicate slots 0) k 0 ≡ 0
+zeros k = elim (decLt k slots) [
+  | yes l ↦ getD-replicate slots k 0 0 l
+  | no l ↦ let h : length {A = ℕ} (replicate slots 0) ≤ k = omega (arith, length-replicate {A = ℕ} slots 0) in List·getD-eq-default (replicate slots 0) 0 h
+]
+
+-- no code yet, and one code more
+pub seen-none : (longest : ℕ) → Seen longest (set (replicate slots 0) 0 1)
+seen-none longest = record { long = length-set {A = ℕ} (replicate slots 0) 0 1 ∙ length-replicate {A = ℕ} slots 0; right = right }
+  where
+    right : (c : ℕ) → getD (set (replicate slots 0) 0 1) (slotOf c) 0 ≡ c → code? longest c ≡ true
+    right c e = elim (ℕ-discrete (slotOf c) 0) [
+      | yes p ↦
+          let one : getD {A = ℕ} (set (replicate slots 0) 0 1) (slotOf c) 0 ≡ 1 =
+          rw p (getD-set-same {A = ℕ} (replicate slots 0) 0 1 0 (omega (arith, length-replicate {A = ℕ} slots 0))) in
+          let f : c ≡ 1 = sym e ∙ one in
+          let z : slotOf 1 ≡ 0 = rw f at p in
+          absurd (omega arith)
+      | no p ↦
+          let none : getD {A = ℕ} (set (replicate slots 0) 0 1) (slotOf c) 0 ≡ 0 = getD-set-other {A = ℕ} (replicate slots 0) 0 (slotOf c) 1 0 p ∙ zeros (slotOf c) in
+          let f : c ≡ 0 = sym e ∙ none in
+          absurd (p (rw f refl))
+    ]
+
+pub seen-more : {longest : ℕ} {seen : List ℕ} (code : ℕ) → Seen longest seen → code? longest code ≡ true → Seen longest (set seen (slotOf code) code)
+seen-more {longest} {seen} code m q = record { long = length-set seen _ _ ∙ m .long; right = right }
+  where
+    right : (c : ℕ) → getD (set seen (slotOf code) code) (slotOf c) 0 ≡ c → code? longest c ≡ true
+    right c e = elim (ℕ-discrete (slotOf c) (slotOf code)) [
+      | yes p ↦
+          let same : getD (set seen (slotOf code) code) (slotOf c) 0 ≡ code = rw p (getD-set-same seen (slotOf code) code 0 (omega (arith, m .long))) in
+          let g : c ≡ code = sym e ∙ same in
+          rw g q
+      | no p ↦ m .right c (sym (getD-set-other seen (slotOf code) (slotOf c) code 0 p) ∙ e)
+    ]
+
+-- a number with a wrong field is no entry
+pub no-entry : (vertices longest x : ℕ) → ¬ Valid vertices longest x → entry? vertices longest x ≡ false
+no-entry vertices longest x n = test-false (test-entry vertices longest x) n
+
+-- a number whose other fields are right is one where its code is one
+pub code-entry : (vertices longest x : ℕ) {b : Bool} → sideOf x < 2 → ownerOf x < vertices → hubOf x < vertices → code? longest (codeOf x) ≡ b
+    → entry? vertices longest x ≡ b
+unfolding entry?
+code-entry vertices longest x s o h e = simp (lt-ltb _ _ s, lt-ltb _ _ o, lt-ltb _ _ h, e)
+
+module _ {vertices n : ℕ} (m : FieldEnd vertices n) where
+  pub hubs : Hubs vertices (n * 65536)
+  hubs = record {
+    right = λ x h. omega (arith, m .most);
+    wrong = λ x h longest. no-entry vertices longest x (λ v. omega (arith, m .least (hubOf x) (omega arith) (v .hub)));
+  }
+
+  -- to the end of the side
+  pub within : (x : ℕ) → sideOf x < 2 → Within vertices x (x / 4294967296 * 4294967296 + n * 16777216)
+  within x s = record { side = λ y l k. omega (arith, same y l k); owner = λ y l k. omega (arith, m .most, same y l k) }
+    where
+      same : (y : ℕ) → x ≤ y → y < x / 4294967296 * 4294967296 + n * 16777216 → y / 4294967296 ≡ x / 4294967296
+      same y l k = omega (arith, m .small)
+
+pub entry-side : (vertices longest x : ℕ) → entry? vertices longest x ≡ true → sideOf x < 2
+entry-side vertices longest x e = test-yields (test-entry vertices longest x) e .side

@@ -1,0 +1,228 @@
+// Index memory: check 12, in one pass that also finds how many entries stand.
+ghost use mathlib.Core.Path.{_≡_};
+ghost use mathlib.Core.Bool.{not};
+ghost use Prim.Native.Nat.{_≤_, _<_};
+ghost use lib.ListN.{length};
+ghost use Rattle.model.specs.Limits.{codeDigits, hubUnit};
+ghost use Rattle.model.specs.Edges.{zeros?};
+ghost use Rattle.model.specs.Patterns.{keyed?, own?};
+ghost use Rattle.model.specs.Query.{digits, code?};
+ghost use Rattle.scan.specs.Memory.{scanOf};
+ghost use Rattle.scan.specs.Codes.{slotOf, Detects, Repeats, Spelled, Repeatable};
+ghost use Rattle.scan.specs.Scan.{Seen, Looks, FieldEnd, Skims};
+
+// What the fields of an entry are multiplied by. Hub and code together are what is below OWNER.
+const HUB: u64 = 65536;
+
+const OWNER: u64 = 16777216;
+
+const SIDE: u64 = 4294967296;
+
+// What check 12 finds: how many entries stand, or that this is no index memory of the graph.
+pub enum Scanned {
+    Entries(usize),
+    Invalid,
+}
+
+// How many slots there are for codes that have passed. With this multiplier nearly all of the 4,600 codes of four digits have a slot of their own.
+const SLOTS: usize = 8192;
+
+const MULTIPLIER: u64 = 1040391;
+
+// The slot of a code.
+fn slot(code: u64) -> usize
+    requires { ⌜ code < hubUnit ⌝ }
+    ensures { λ r. ⌜ r ≡ slotOf code ⌝ }
+{
+    (code * MULTIPLIER / SLOTS as u64 % SLOTS as u64) as usize
+}
+
+// Whether the digits of a code are 1 to `longest` labels.
+fn are_labels(longest: u32, code: u64) -> bool
+    requires { ⌜ code < hubUnit ⌝ }
+    ensures { λ r. ⌜ r ≡ keyed? longest (digits codeDigits code) ⌝ }
+{
+    let mut rest = code;
+    let mut length = 0;
+    let mut i = 0;
+    while i < model::CODE_DIGITS {
+        // 1 if digits are left, else 0, without a branch: codes of all lengths are mixed
+        let some = (rest + (model::HUB_UNIT - 1)) / model::HUB_UNIT;
+        if model::MOST_LABEL as u64 <= (rest - some) % model::DIGIT_UNIT {
+            return false;
+        }
+        rest = rest / model::DIGIT_UNIT;
+        length += some;
+        i += 1;
+    }
+    if length < 1 {
+        return false;
+    }
+    length <= longest as u64
+}
+
+// Whether the last d digits of a code, written twice or more, give it. They count up to `unit`.
+fn repeats_by(code: u64, d: usize, unit: u64) -> bool
+    requires { ⌜ Repeatable code d unit ⌝ }
+    ensures { λ r. ⌜ Detects (Repeats (digits codeDigits code) d) r ⌝ }
+{
+    let last = code % unit;
+    let mut word = last;
+    let mut length = d + d;
+    while length <= model::CODE_DIGITS {
+        word = word * unit + last;
+        if word == code {
+            return true;
+        }
+        length += d;
+    }
+    false
+}
+
+// Whether the digits of a code are fewer digits, written twice or more.
+fn repeats(code: u64) -> bool
+    requires { ⌜ Spelled code ⌝ }
+    ensures { λ r. ⌜ r ≡ not (own? (digits codeDigits code)) ⌝ }
+{
+    let mut d = 1;
+    let mut unit = model::DIGIT_UNIT;
+    while d + d <= model::CODE_DIGITS {
+        if repeats_by(code, d, unit) {
+            return true;
+        }
+        d += 1;
+        unit = unit * model::DIGIT_UNIT;
+    }
+    false
+}
+
+// Whether a code is that of a pattern of at most `longest` labels that is its own minimum repeat.
+pub fn is_code(longest: u32, code: u64) -> bool
+    requires { ⌜ code < hubUnit ⌝ }
+    ensures { λ r. ⌜ r ≡ code? longest code ⌝ }
+{
+    if are_labels(longest, code) {
+        return !repeats(code);
+    }
+    false
+}
+
+// Whether x is an entry of the graph. If it is, its code is kept in `seen`, which spares the next with that code the test.
+fn is_entry(vertices: u32, longest: u32, x: u64, seen: &mut [u16; SLOTS]) -> bool
+    requires { ⌜ Seen longest (now seen) ⌝ }
+    ensures { λ r. ⌜ Looks vertices longest x (now (seen .exit)) r ⌝ }
+{
+    if 2 <= x / SIDE {
+        return false;
+    }
+    if vertices as u64 <= x / OWNER % 256 {
+        return false;
+    }
+    if vertices as u64 <= x / HUB % 256 {
+        return false;
+    }
+    let code = x % HUB;
+    if is_code(longest, code) {
+        let at = slot(code);
+        seen[at] = code as u16;
+        return true;
+    }
+    false
+}
+
+// How many of the 256 numbers that a field holds are vertices.
+fn field_end(vertices: u32) -> u64
+    ensures { λ r. ⌜ FieldEnd vertices r ⌝ }
+{
+    if vertices < 256 {
+        return vertices as u64;
+    }
+    256
+}
+
+fn all_zero(s: &[u64]) -> bool
+    ensures { λ r. ⌜ r ≡ zeros? (now (s .entry)) ⌝ }
+{
+    let mut i = 0;
+    while i < s.len() {
+        if s[i] != 0 {
+            return false;
+        }
+        i += 1;
+    }
+    true
+}
+
+// Why check 12 leaves its fast loop. As each way out leads elsewhere, the compiler keeps the tests apart, which is faster than one of all.
+enum Stop {
+    // from this slot on nothing rises
+    Rest(usize),
+    // side, owner or code of the entry in this slot is not known to be right
+    Fresh(usize),
+    // a hub is none of the graph
+    Stray,
+}
+
+// Goes on over the entries that rise, are below `end`, are below `hubs` by hub and code, and have a code that was seen, as nearly all do.
+fn skim(index: &[u64], from: usize, prev: u64, end: u64, hubs: u64, seen: &[u16; SLOTS]) -> Stop
+    requires { ⌜ from ≤ length (now index) ⌝ }
+    ensures { λ r. ⌜ Skims (now (index .entry)) from prev end hubs (now (seen .entry)) r ⌝ }
+{
+    let mut i = from;
+    let mut last = prev;
+    while i < index.len() {
+        let x = index[i];
+        if x <= last {
+            return Stop::Rest(i);
+        }
+        if end <= x {
+            return Stop::Fresh(i);
+        }
+        if hubs <= x % OWNER {
+            return Stop::Stray;
+        }
+        let code = x % HUB;
+        let at = slot(code);
+        if seen[at] == code as u16 {
+            last = x;
+            i += 1;
+        } else {
+            return Stop::Fresh(i);
+        }
+    }
+    Stop::Rest(i)
+}
+
+// Check 12, in one pass. From the last entry to `end`, side and owner are right.
+pub fn scan(vertices: u32, longest: u32, index: &[u64]) -> Scanned
+    ensures { λ r. ⌜ r ≡ scanOf vertices longest (now (index .entry)) ⌝ }
+{
+    // no code is kept yet; as 0 is none, its slot, 0, holds another number
+    let mut seen = [0u16; SLOTS];
+    seen[0] = 1;
+    let n = field_end(vertices);
+    let mut i = 0;
+    let mut prev: u64 = 0;
+    let mut end: u64 = 0;
+    loop {
+        let stop = skim(index, i, prev, end, n * HUB, &seen);
+        match stop {
+            Stop::Stray => return Scanned::Invalid,
+            Stop::Rest(at) => {
+                if all_zero(&index[at..]) {
+                    return Scanned::Entries(at);
+                }
+                return Scanned::Invalid;
+            }
+            Stop::Fresh(at) => {
+                prev = index[at];
+                if is_entry(vertices, longest, prev, &mut seen) {
+                    end = prev / SIDE * SIDE + n * OWNER;
+                    i = at + 1;
+                } else {
+                    return Scanned::Invalid;
+                }
+            }
+        }
+    }
+}
