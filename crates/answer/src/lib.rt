@@ -1,18 +1,14 @@
 // The answer to a query from the entries of an index: an owner's list as a part of the index, and the joining of two lists.
+use model::HUB_UNIT;
+use model::OWNER_UNIT;
+use model::SIDE_UNIT;
 ghost use mathlib.Core.Path.{_≡_};
 ghost use Prim.Native.Nat.{_<_};
 ghost use Rattle.model.specs.Lists.{Rising, Bracket, mem?};
-ghost use Rattle.model.specs.Limits.{mostLongest};
+ghost use Rattle.model.specs.Limits.{mostVertices, mostLongest};
 ghost use Rattle.model.specs.Patterns.{Keyed};
 ghost use Rattle.answer.specs.Parts.{Listed, Joins};
 ghost use Rattle.answer.specs.Saying.{Says};
-
-// What the fields of an entry are multiplied by. Hub and code together are what is below OWNER.
-const HUB: u64 = 65536;
-
-const OWNER: u64 = 16777216;
-
-const SIDE: u64 = 4294967296;
 
 // The first slot whose entry is not below key, by binary search.
 fn lower_bound(index: &[u64], key: u64) -> usize
@@ -52,10 +48,10 @@ fn join(out: &[u64], into: &[u64], code: u64) -> bool
     let mut i = 0;
     let mut j = 0;
     'join: while i < out.len() {
-        let x = out[i] % OWNER;
-        if x % HUB == code {
+        let x = out[i] % OWNER_UNIT;
+        if x % HUB_UNIT == code {
             while j < into.len() {
-                let z = into[j] % OWNER;
+                let z = into[j] % OWNER_UNIT;
                 if x == z {
                     found = true;
                     break 'join;
@@ -73,21 +69,21 @@ fn join(out: &[u64], into: &[u64], code: u64) -> bool
 
 // What follows check 12: the query by a pattern that is its own minimum repeat, put to the entries alone (no zeros behind them).
 pub fn answer(index: &[u64], start: u32, destination: u32, pattern: &[u8]) -> bool
-    requires { ⌜ Rising (now index) × (Keyed mostLongest (now pattern) × ((start < 256) × (destination < 256))) ⌝ }
+    requires { ⌜ Rising (now index) × (Keyed mostLongest (now pattern) × ((start < mostVertices) × (destination < mostVertices))) ⌝ }
     ensures { λ r. ⌜ Says (now (index .entry)) (now (pattern .entry)) start destination r ⌝ }
 {
     let code = patterns::code(pattern);
-    let out = start as u64 * OWNER;
-    let into = SIDE + destination as u64 * OWNER;
-    if has(index, out + destination as u64 * HUB + code) {
+    let out = start as u64 * OWNER_UNIT;
+    let into = SIDE_UNIT + destination as u64 * OWNER_UNIT;
+    if has(index, out + destination as u64 * HUB_UNIT + code) {
         return true;
     }
-    if has(index, into + start as u64 * HUB + code) {
+    if has(index, into + start as u64 * HUB_UNIT + code) {
         return true;
     }
     let a = lower_bound(index, out);
-    let b = lower_bound(index, out + OWNER);
+    let b = lower_bound(index, out + OWNER_UNIT);
     let c = lower_bound(index, into);
-    let d = lower_bound(index, into + OWNER);
+    let d = lower_bound(index, into + OWNER_UNIT);
     join(&index[a..b], &index[c..d], code)
 }

@@ -6,7 +6,7 @@ use Prim.Native.Nat.{ℕ, _≤_, _<_}
 use native.Mathlib.Omega.{arith}
 use lib.ListN.{length, take}
 use Rattle.model.specs.Lists.{Rising}
-use Rattle.model.specs.Limits.{mostLongest}
+use Rattle.model.specs.Limits.{mostVertices, mostLongest}
 use Rattle.model.specs.Edges.{standing, Bounds}
 use Rattle.model.specs.Patterns.{Keyed, minRepeat, foldedLength}
 use Rattle.model.specs.Query.{entry?, indexMemory?}
@@ -96,7 +96,7 @@ module _ {vertices longest s t : ℕ} {pattern index : List ℕ} {n : ℕ} (p : 
   index-front : take n index ≡ standing index
   index-front = ap (λ (m : ℕ). take m index) count ∙ filled-front (standing index) (memory .zeros)
 
-  pub askable : Rising (take n index) × (Keyed mostLongest (take size pattern) × ((s < 256) × (t < 256)))
+  pub askable : Rising (take n index) × (Keyed mostLongest (take size pattern) × ((s < mostVertices) × (t < mostVertices)))
   askable = rw (index-front, pattern-front) (memory .sorted, (folded keyed .keyed, (omega (arith, given, given .bounds), omega (arith, given, given .bounds))))
 
   none-refuses : queryRefusal vertices longest s t pattern index ≡ 0

@@ -8,6 +8,7 @@ use native.Mathlib.Decide.{ℕ-discrete, decLt}
 use lib.ListN.{length, getD, set, replicate, length-set, length-replicate, getD-replicate, List·getD-eq-default}
 use lib.Seq.{getD-set-same, getD-set-other}
 use borrow.Author.Tests.{lt-ltb}
+use Rattle.model.specs.Limits.{hubUnit, ownerUnit, sideUnit}
 use Rattle.model.specs.Query.{sideOf, ownerOf, hubOf, codeOf, code?, entry?}
 use Rattle.model.proofs.Tests.{test-false, test-yields}
 use Rattle.model.proofs.IndexMemory.{Valid, test-entry}
@@ -62,17 +63,17 @@ unfolding entry?
 code-entry vertices longest x s o h e = simp (lt-ltb _ _ s, lt-ltb _ _ o, lt-ltb _ _ h, e)
 
 module _ {vertices n : ℕ} (m : FieldEnd vertices n) where
-  pub hubs : Hubs vertices (n * 65536)
+  pub hubs : Hubs vertices (n * hubUnit)
   hubs = record {
     right = λ x h. omega (arith, m .most);
     wrong = λ x h longest. no-entry vertices longest x (λ v. omega (arith, m .least (hubOf x) (omega arith) (v .hub)));
   }
 
   -- to the end of the side
-  pub within : (x : ℕ) → sideOf x < 2 → Within vertices x (x / 4294967296 * 4294967296 + n * 16777216)
+  pub within : (x : ℕ) → sideOf x < 2 → Within vertices x (sideOf x * sideUnit + n * ownerUnit)
   within x s = record { side = λ y l k. omega (arith, same y l k); owner = λ y l k. omega (arith, m .most, same y l k) }
     where
-      same : (y : ℕ) → x ≤ y → y < x / 4294967296 * 4294967296 + n * 16777216 → y / 4294967296 ≡ x / 4294967296
+      same : (y : ℕ) → x ≤ y → y < sideOf x * sideUnit + n * ownerUnit → sideOf y ≡ sideOf x
       same y l k = omega (arith, m .small)
 
 pub entry-side : (vertices longest x : ℕ) → entry? vertices longest x ≡ true → sideOf x < 2

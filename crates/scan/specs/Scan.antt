@@ -4,7 +4,7 @@ use mathlib.Core.Bool.{Bool, true, false, cond}
 use mathlib.Core.List.{List}
 use Prim.Native.Nat.{ℕ, _+_, _%_, _≤_, _<_}
 use lib.ListN.{length, getD, drop}
-use Rattle.model.specs.Limits.{ownerUnit}
+use Rattle.model.specs.Limits.{mostVertices, ownerUnit}
 use Rattle.model.specs.Edges.{zeros?}
 use Rattle.model.specs.Query.{sideOf, ownerOf, hubOf, code?, entry?}
 use Rattle.scan.specs.Memory.{scanFrom}
@@ -23,11 +23,11 @@ pub record Looks (vertices longest x : ℕ) (seen′ : List ℕ) (r : Bool) : Ty
   pub is : r ≡ entry? vertices longest x
   pub seen : Seen longest seen′
 
--- the vertices among the 256 numbers of a field are those below r
+-- the vertices among the numbers of a field are those below r
 pub record FieldEnd (vertices r : ℕ) : Type 0 where
-  pub small : r ≤ 256
+  pub small : r ≤ mostVertices
   pub most : r ≤ vertices
-  pub least : (v : ℕ) → v < 256 → v < vertices → v < r
+  pub least : (v : ℕ) → v < mostVertices → v < vertices → v < r
 
 -- side and owner are right from x on, below end
 pub record Within (vertices x end : ℕ) : Type 0 where

@@ -1,4 +1,11 @@
 // Index memory: check 12, in one pass that also finds how many entries stand.
+use model::CODE_DIGITS;
+use model::DIGIT_UNIT;
+use model::HUB_UNIT;
+use model::MOST_LABEL;
+use model::MOST_VERTICES;
+use model::OWNER_UNIT;
+use model::SIDE_UNIT;
 ghost use mathlib.Core.Path.{_≡_};
 ghost use mathlib.Core.Bool.{not};
 ghost use Prim.Native.Nat.{_≤_, _<_};
@@ -11,12 +18,8 @@ ghost use Rattle.scan.specs.Memory.{scanOf};
 ghost use Rattle.scan.specs.Codes.{slotOf, Detects, Repeats, Spelled, Repeatable};
 ghost use Rattle.scan.specs.Scan.{Seen, Looks, FieldEnd, Skims};
 
-// What the fields of an entry are multiplied by. Hub and code together are what is below OWNER.
-const HUB: u64 = 65536;
-
-const OWNER: u64 = 16777216;
-
-const SIDE: u64 = 4294967296;
+// The numbers that an owner's field and a hub's field hold.
+const FIELD: u64 = MOST_VERTICES as u64;
 
 // What check 12 finds: how many entries stand, or that this is no index memory of the graph.
 pub enum Scanned {
@@ -45,13 +48,13 @@ fn are_labels(longest: u32, code: u64) -> bool
     let mut rest = code;
     let mut length = 0;
     let mut i = 0;
-    while i < model::CODE_DIGITS {
+    while i < CODE_DIGITS {
         // 1 if digits are left, else 0, without a branch: codes of all lengths are mixed
-        let some = (rest + (model::HUB_UNIT - 1)) / model::HUB_UNIT;
-        if model::MOST_LABEL as u64 <= (rest - some) % model::DIGIT_UNIT {
+        let some = (rest + (HUB_UNIT - 1)) / HUB_UNIT;
+        if MOST_LABEL as u64 <= (rest - some) % DIGIT_UNIT {
             return false;
         }
-        rest = rest / model::DIGIT_UNIT;
+        rest = rest / DIGIT_UNIT;
         length += some;
         i += 1;
     }
@@ -69,7 +72,7 @@ fn repeats_by(code: u64, d: usize, unit: u64) -> bool
     let last = code % unit;
     let mut word = last;
     let mut length = d + d;
-    while length <= model::CODE_DIGITS {
+    while length <= CODE_DIGITS {
         word = word * unit + last;
         if word == code {
             return true;
@@ -85,13 +88,13 @@ fn repeats(code: u64) -> bool
     ensures { λ r. ⌜ r ≡ not (own? (digits codeDigits code)) ⌝ }
 {
     let mut d = 1;
-    let mut unit = model::DIGIT_UNIT;
-    while d + d <= model::CODE_DIGITS {
+    let mut unit = DIGIT_UNIT;
+    while d + d <= CODE_DIGITS {
         if repeats_by(code, d, unit) {
             return true;
         }
         d += 1;
-        unit = unit * model::DIGIT_UNIT;
+        unit = unit * DIGIT_UNIT;
     }
     false
 }
@@ -112,16 +115,16 @@ fn is_entry(vertices: u32, longest: u32, x: u64, seen: &mut [u16; SLOTS]) -> boo
     requires { ⌜ Seen longest (now seen) ⌝ }
     ensures { λ r. ⌜ Looks vertices longest x (now (seen .exit)) r ⌝ }
 {
-    if 2 <= x / SIDE {
+    if 2 <= x / SIDE_UNIT {
         return false;
     }
-    if vertices as u64 <= x / OWNER % 256 {
+    if vertices as u64 <= x / OWNER_UNIT % FIELD {
         return false;
     }
-    if vertices as u64 <= x / HUB % 256 {
+    if vertices as u64 <= x / HUB_UNIT % FIELD {
         return false;
     }
-    let code = x % HUB;
+    let code = x % HUB_UNIT;
     if is_code(longest, code) {
         let at = slot(code);
         seen[at] = code as u16;
@@ -130,14 +133,14 @@ fn is_entry(vertices: u32, longest: u32, x: u64, seen: &mut [u16; SLOTS]) -> boo
     false
 }
 
-// How many of the 256 numbers that a field holds are vertices.
+// How many of the numbers that a field holds are vertices.
 fn field_end(vertices: u32) -> u64
     ensures { λ r. ⌜ FieldEnd vertices r ⌝ }
 {
-    if vertices < 256 {
+    if vertices < MOST_VERTICES as u32 {
         return vertices as u64;
     }
-    256
+    FIELD
 }
 
 fn all_zero(s: &[u64]) -> bool
@@ -178,10 +181,10 @@ fn skim(index: &[u64], from: usize, prev: u64, end: u64, hubs: u64, seen: &[u16;
         if end <= x {
             return Stop::Fresh(i);
         }
-        if hubs <= x % OWNER {
+        if hubs <= x % OWNER_UNIT {
             return Stop::Stray;
         }
-        let code = x % HUB;
+        let code = x % HUB_UNIT;
         let at = slot(code);
         if seen[at] == code as u16 {
             last = x;
@@ -205,7 +208,7 @@ pub fn scan(vertices: u32, longest: u32, index: &[u64]) -> Scanned
     let mut prev: u64 = 0;
     let mut end: u64 = 0;
     loop {
-        let stop = skim(index, i, prev, end, n * HUB, &seen);
+        let stop = skim(index, i, prev, end, n * HUB_UNIT, &seen);
         match stop {
             Stop::Stray => return Scanned::Invalid,
             Stop::Rest(at) => {
@@ -217,7 +220,7 @@ pub fn scan(vertices: u32, longest: u32, index: &[u64]) -> Scanned
             Stop::Fresh(at) => {
                 prev = index[at];
                 if is_entry(vertices, longest, prev, &mut seen) {
-                    end = prev / SIDE * SIDE + n * OWNER;
+                    end = prev / SIDE_UNIT * SIDE_UNIT + n * OWNER_UNIT;
                     i = at + 1;
                 } else {
                     return Scanned::Invalid;
