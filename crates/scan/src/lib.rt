@@ -27,6 +27,9 @@ pub enum Scanned {
     Invalid,
 }
 
+// A code as it is kept: CODE_DIGITS digits fit.
+type Kept = u16;
+
 // How many slots there are for codes that have passed. With this multiplier nearly all of the 4,600 codes of four digits have a slot of their own.
 const SLOTS: usize = 8192;
 
@@ -111,7 +114,7 @@ pub fn is_code(longest: u32, code: u64) -> bool
 }
 
 // Whether x is an entry of the graph. If it is, its code is kept in `seen`, which spares the next with that code the test.
-fn is_entry(vertices: u32, longest: u32, x: u64, seen: &mut [u16; SLOTS]) -> bool
+fn is_entry(vertices: u32, longest: u32, x: u64, seen: &mut [Kept; SLOTS]) -> bool
     requires { ⌜ Seen longest (now seen) ⌝ }
     ensures { λ r. ⌜ Looks vertices longest x (now (seen .exit)) r ⌝ }
 {
@@ -127,7 +130,7 @@ fn is_entry(vertices: u32, longest: u32, x: u64, seen: &mut [u16; SLOTS]) -> boo
     let code = x % HUB_UNIT;
     if is_code(longest, code) {
         let at = slot(code);
-        seen[at] = code as u16;
+        seen[at] = code as Kept;
         return true;
     }
     false
@@ -167,7 +170,7 @@ enum Stop {
 }
 
 // Goes on over the entries that rise, are below `end`, are below `hubs` by hub and code, and have a code that was seen, as nearly all do.
-fn skim(index: &[u64], from: usize, prev: u64, end: u64, hubs: u64, seen: &[u16; SLOTS]) -> Stop
+fn skim(index: &[u64], from: usize, prev: u64, end: u64, hubs: u64, seen: &[Kept; SLOTS]) -> Stop
     requires { ⌜ from ≤ length (now index) ⌝ }
     ensures { λ r. ⌜ Skims (now (index .entry)) from prev end hubs (now (seen .entry)) r ⌝ }
 {
@@ -186,7 +189,7 @@ fn skim(index: &[u64], from: usize, prev: u64, end: u64, hubs: u64, seen: &[u16;
         }
         let code = x % HUB_UNIT;
         let at = slot(code);
-        if seen[at] == code as u16 {
+        if seen[at] == code as Kept {
             last = x;
             i += 1;
         } else {
@@ -201,7 +204,7 @@ pub fn scan(vertices: u32, longest: u32, index: &[u64]) -> Scanned
     ensures { λ r. ⌜ r ≡ scanOf vertices longest (now (index .entry)) ⌝ }
 {
     // no code is kept yet; as 0 is none, its slot, 0, holds another number
-    let mut seen = [0u16; SLOTS];
+    let mut seen: [Kept; SLOTS] = [0; SLOTS];
     seen[0] = 1;
     let n = field_end(vertices);
     let mut i = 0;
