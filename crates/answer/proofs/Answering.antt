@@ -19,20 +19,20 @@ use Rattle.model.proofs.Patterns.{code-below}
 use Rattle.model.proofs.Query.{test-answers}
 use Rattle.model.proofs.IndexMemory.{test-entry}
 use Rattle.answer.specs.Saying.{Indexed, Says}
-use Rattle.answer.specs.Parts.{lowOf, Listed, Shared, Joins}
+use Rattle.answer.specs.Parts.{lowOf, HubRising, Shared, Joins}
 
--- ---- an owner's list: the entries from key on, below key + 2^24
+-- ---- an owner's list: the entries from key on, below key + ownerUnit
 
 -- x is one of them
-pub record Owned (index : List ℕ) (key x : ℕ) : Type 0 where
+pub record Belongs (index : List ℕ) (key x : ℕ) : Type 0 where
   pub stands : x ∈ index
   pub low : key ≤ x
   pub high : x < key + ownerUnit
 
 -- xs has them and no other
 pub record Part (index : List ℕ) (key : ℕ) (xs : List ℕ) : Type 0 where
-  pub each : (p : ℕ) → p < length xs → Owned index key (getD xs p 0)
-  pub all : (x : ℕ) → Owned index key x → Index xs x
+  pub each : (p : ℕ) → p < length xs → Belongs index key (getD xs p 0)
+  pub all : (x : ℕ) → Belongs index key x → Index xs x
 
 -- they are the slots from a to b
 module _ {index : List ℕ} {key a b : ℕ} (from : Bracket index key a a) (to : Bracket index (key + ownerUnit) b b) where
@@ -45,7 +45,7 @@ module _ {index : List ℕ} {key a b : ℕ} (from : Bracket index key a a) (to :
   part-at : (p : ℕ) → p < b - a → getD (take (b - a) (drop a index)) p 0 ≡ getD index (a + p) 0
   part-at p h = getD-take (b - a) (drop a index) p 0 h ∙ getD-drop a index p 0
 
-  slot : (i : ℕ) → a ≤ i → i < b → Owned index key (getD index i 0)
+  slot : (i : ℕ) → a ≤ i → i < b → Belongs index key (getD index i 0)
   slot i h k = record { stands = getD-in index i (omega (arith, to .most)); low = from .above i h (omega (arith, to .most)); high = to .under i k }
 
   pub part : Part index key (take (b - a) (drop a index))
@@ -59,8 +59,8 @@ module _ {index : List ℕ} {key a b : ℕ} (from : Bracket index key a a) (to :
         record { i = at .i - a; inside = omega (arith, part-length); is = part-at (at .i - a) (omega arith) ∙ rw e (at .is) };
   }
 
-  pub part-listed : Rising index → key % ownerUnit ≡ 0 → Listed (take (b - a) (drop a index))
-  part-listed r e = record {
+  pub part-rises : Rising index → key % ownerUnit ≡ 0 → HubRising (take (b - a) (drop a index))
+  part-rises r e = record {
     rises = λ p q h k.
         let i : q < b - a = omega (arith, part-length) in
         rw (part-at p (omega arith), part-at q i)

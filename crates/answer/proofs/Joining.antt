@@ -6,7 +6,7 @@ use Prim.Native.Nat.{ℕ, _+_, _≤_, _<_}
 use native.Mathlib.Decide.{ℕ-discrete, decLt}
 use native.Mathlib.Omega.{arith}
 use lib.ListN.{length, getD}
-use Rattle.answer.specs.Parts.{lowOf, Listed, Match, Shared, Joins}
+use Rattle.answer.specs.Parts.{lowOf, HubRising, Match, Shared, Joins}
 
 -- the loops stand at slots i and j: the out slots before i match nothing, and the in slots before j lie below every out slot from i on
 pub record Joining (out into : List ℕ) (code i j : ℕ) : Type 0 where
@@ -17,15 +17,15 @@ pub joining-start : (out into : List ℕ) (code : ℕ) → Joining out into code
 joining-start out into code = record { passed = λ p q h. absurd (omega arith); behind = λ p q h k l. absurd (omega arith) }
 
 -- numbers that rise, at two slots that may be the same
-listed-le : {xs : List ℕ} → Listed xs → (p q : ℕ) → p ≤ q → q < length xs → lowOf (getD xs p 0) ≤ lowOf (getD xs q 0)
-listed-le {xs} l p q h k = elim (ℕ-discrete p q) [ yes e ↦ rw e (omega arith) | no n ↦ omega (arith, l .rises p q (omega arith) k) ]
+hub-rising-le : {xs : List ℕ} → HubRising xs → (p q : ℕ) → p ≤ q → q < length xs → lowOf (getD xs p 0) ≤ lowOf (getD xs q 0)
+hub-rising-le {xs} l p q h k = elim (ℕ-discrete p q) [ yes e ↦ rw e (omega arith) | no n ↦ omega (arith, l .rises p q (omega arith) k) ]
 
 module _ {out into : List ℕ} {code i j : ℕ} (g : Joining out into code i j) where
   -- the in slot lies below: on to the next
-  pub joining-on : Listed out → lowOf (getD into j 0) < lowOf (getD out i 0) → Joining out into code i (j + 1)
+  pub joining-on : HubRising out → lowOf (getD into j 0) < lowOf (getD out i 0) → Joining out into code i (j + 1)
   joining-on l h = record {
     passed = g .passed;
-    behind = λ p q a b c. elim (ℕ-discrete q j) [ yes e ↦ rw e (omega (arith, listed-le l i p a b)) | no n ↦ g .behind p q a b (omega arith) ];
+    behind = λ p q a b c. elim (ℕ-discrete q j) [ yes e ↦ rw e (omega (arith, hub-rising-le l i p a b)) | no n ↦ g .behind p q a b (omega arith) ];
   }
 
   -- nothing from j on matches the out slot: on to the next
@@ -39,8 +39,8 @@ module _ {out into : List ℕ} {code i j : ℕ} (g : Joining out into code i j) 
       here q b m = elim (decLt q j) [ yes l ↦ omega (arith, g .behind i q (omega arith) h l, m .same) | no l ↦ n q (omega arith) b m ]
 
   -- because the in slot lies above
-  pub joining-past : i < length out → Listed into → lowOf (getD out i 0) < lowOf (getD into j 0) → Joining out into code (i + 1) j
-  joining-past h l k = joining-next h (λ q a b m. omega (arith, listed-le l j q a b, m .same))
+  pub joining-past : i < length out → HubRising into → lowOf (getD out i 0) < lowOf (getD into j 0) → Joining out into code (i + 1) j
+  joining-past h l k = joining-next h (λ q a b m. omega (arith, hub-rising-le l j q a b, m .same))
 
   pub joining-none : length out ≤ i → Joins out into code false
   joining-none h = record {

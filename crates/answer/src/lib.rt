@@ -3,12 +3,9 @@ use model::HUB_UNIT;
 use model::OWNER_UNIT;
 use model::SIDE_UNIT;
 ghost use mathlib.Core.Path.{_≡_};
-ghost use Prim.Native.Nat.{_<_};
 ghost use Rattle.model.specs.Lists.{Rising, Bracket, mem?};
-ghost use Rattle.model.specs.Limits.{mostVertices, mostLongest};
-ghost use Rattle.model.specs.Patterns.{Keyed};
-ghost use Rattle.answer.specs.Parts.{Listed, Joins};
-ghost use Rattle.answer.specs.Saying.{Says};
+ghost use Rattle.answer.specs.Parts.{Joinable, Joins};
+ghost use Rattle.answer.specs.Saying.{Answerable, Says};
 
 // The first slot whose entry is not below key, by binary search.
 fn lower_bound(index: &[u64], key: u64) -> usize
@@ -28,6 +25,7 @@ fn lower_bound(index: &[u64], key: u64) -> usize
     lo
 }
 
+// Whether an entry stands.
 fn has(index: &[u64], entry: u64) -> bool
     requires { ⌜ Rising (now index) ⌝ }
     ensures { λ r. ⌜ r ≡ mem? «entry» (now (index .entry)) ⌝ }
@@ -41,7 +39,7 @@ fn has(index: &[u64], entry: u64) -> bool
 
 // Whether an out list and an in list share a hub with the code. Both rise by hub, so the in list goes on where it stood.
 fn join(out: &[u64], into: &[u64], code: u64) -> bool
-    requires { ⌜ Listed (now out) × Listed (now into) ⌝ }
+    requires { ⌜ Joinable (now out) (now into) ⌝ }
     ensures { λ r. ⌜ Joins (now (out .entry)) (now (into .entry)) code r ⌝ }
 {
     let mut found = false;
@@ -69,7 +67,7 @@ fn join(out: &[u64], into: &[u64], code: u64) -> bool
 
 // What follows check 12: the query by a pattern that is its own minimum repeat, put to the entries alone (no zeros behind them).
 pub fn answer(index: &[u64], start: u32, destination: u32, pattern: &[u8]) -> bool
-    requires { ⌜ Rising (now index) × (Keyed mostLongest (now pattern) × ((start < mostVertices) × (destination < mostVertices))) ⌝ }
+    requires { ⌜ Answerable (now index) (now pattern) start destination ⌝ }
     ensures { λ r. ⌜ Says (now (index .entry)) (now (pattern .entry)) start destination r ⌝ }
 {
     let code = patterns::code(pattern);

@@ -5,8 +5,7 @@ use mathlib.Core.List.{List, [], _∷_, _++_}
 use Prim.Native.Nat.{ℕ, _≤_, _<_}
 use native.Mathlib.Omega.{arith}
 use lib.ListN.{length, take}
-use Rattle.model.specs.Lists.{Rising}
-use Rattle.model.specs.Limits.{mostVertices, mostLongest}
+use Rattle.model.specs.Limits.{mostLongest}
 use Rattle.model.specs.Edges.{standing, Bounds}
 use Rattle.model.specs.Patterns.{Keyed, minRepeat, foldedLength}
 use Rattle.model.specs.Query.{entry?, indexMemory?}
@@ -19,10 +18,10 @@ use Rattle.calls.specs.Query.{queryRefusal, queryCall, saying}
 use Rattle.calls.proofs.Checks.{none, pass, first-is, passes, Passed, done, also, bounded, test-ends}
 use Rattle.calls.proofs.Query.{query-accepted}
 use Rattle.scan.specs.Memory.{scanOf}
-use Rattle.scan.specs.declared.Scanned.the-variants.{Entries}
+use Rattle.scan.specs.declared.Extent.the-variants.{Entries}
 use Rattle.scan.proofs.Scanning.{scans}
-use Rattle.answer.specs.Saying.{Says}
-use Rattle.query.specs.Call.{asked, askedRefusal}
+use Rattle.answer.specs.Saying.{Answerable, Says}
+use Rattle.query.specs.Call.{earlierChecks, earlierRefusal}
 
 -- ---- checks followed by others
 
@@ -38,27 +37,27 @@ first-later later done = refl
 first-later later (also e p) = rw e (first-later later p)
 
 -- what checks 1, 2, 10 and 11 leave
-pub record Asked (vertices longest start destination : ℕ) (pattern : List ℕ) : Type 0 where
+pub record Allowed (vertices longest start destination : ℕ) (pattern : List ℕ) : Type 0 where
   pub bounds : Bounds vertices longest
   pub start-vertex : start < vertices
   pub destination-vertex : destination < vertices
   pub keyed : Keyed longest pattern
 
 module _ (vertices longest start destination : ℕ) (pattern index : List ℕ) where
-  pub asked-stop : {n : ℕ} → askedRefusal vertices longest start destination pattern ≡ n → 1 ≤ n
+  pub earlier-stop : {n : ℕ} → earlierRefusal vertices longest start destination pattern ≡ n → 1 ≤ n
       → queryRefusal vertices longest start destination pattern index ≡ n
-  unfolding askedRefusal queryRefusal
-  asked-stop e h = first-stop (asked vertices longest start destination pattern) ((12, indexMemory? vertices longest index) ∷ []) e h
+  unfolding earlierRefusal queryRefusal
+  earlier-stop e h = first-stop (earlierChecks vertices longest start destination pattern) ((12, indexMemory? vertices longest index) ∷ []) e h
 
-  pub asked-later : askedRefusal vertices longest start destination pattern ≡ 0
+  pub earlier-on : earlierRefusal vertices longest start destination pattern ≡ 0
       → queryRefusal vertices longest start destination pattern index ≡ firstRefusal ((12, indexMemory? vertices longest index) ∷ [])
-  unfolding askedRefusal queryRefusal
-  asked-later e = first-later ((12, indexMemory? vertices longest index) ∷ []) (passes (asked vertices longest start destination pattern) tt e)
+  unfolding earlierRefusal queryRefusal
+  earlier-on e = first-later ((12, indexMemory? vertices longest index) ∷ []) (passes (earlierChecks vertices longest start destination pattern) tt e)
 
-pub asked-pass : (vertices longest start destination : ℕ) (pattern : List ℕ) → askedRefusal vertices longest start destination pattern ≡ 0
-    → Asked vertices longest start destination pattern
-unfolding askedRefusal
-asked-pass vertices longest start destination pattern e = elim (passes (asked vertices longest start destination pattern) tt e) [
+pub earlier-leaves : (vertices longest start destination : ℕ) (pattern : List ℕ) → earlierRefusal vertices longest start destination pattern ≡ 0
+    → Allowed vertices longest start destination pattern
+unfolding earlierRefusal
+earlier-leaves vertices longest start destination pattern e = elim (passes (earlierChecks vertices longest start destination pattern) tt e) [
   | also v (also k (also ends (also keyed done))) ↦
       let (s, t) = test-yields (test-ends vertices start destination) ends in
       record { bounds = bounded v k; start-vertex = s; destination-vertex = t; keyed = test-yields (test-keyed longest pattern) keyed }
@@ -68,12 +67,12 @@ asked-pass vertices longest start destination pattern e = elim (passes (asked ve
 
 -- all checks have passed, and n entries stand
 pub record Admitted (vertices longest start destination : ℕ) (pattern index : List ℕ) (n : ℕ) : Type 0 where
-  pub asked : askedRefusal vertices longest start destination pattern ≡ 0
+  pub earlier : earlierRefusal vertices longest start destination pattern ≡ 0
   pub scanned : scanOf vertices longest index ≡ Entries n
 
 module _ {vertices longest s t : ℕ} {pattern index : List ℕ} {n : ℕ} (p : Admitted vertices longest s t pattern index n) (size : ℕ) (is : size ≡ foldedLength pattern) where
-  given : Asked vertices longest s t pattern
-  given = asked-pass vertices longest s t pattern (p .asked)
+  given : Allowed vertices longest s t pattern
+  given = earlier-leaves vertices longest s t pattern (p .earlier)
 
   keyed : Keyed mostLongest pattern
   keyed = keyed-up (given .bounds .longest-most) (given .keyed)
@@ -96,11 +95,16 @@ module _ {vertices longest s t : ℕ} {pattern index : List ℕ} {n : ℕ} (p : 
   index-front : take n index ≡ standing index
   index-front = ap (λ (m : ℕ). take m index) count ∙ filled-front (standing index) (memory .zeros)
 
-  pub askable : Rising (take n index) × (Keyed mostLongest (take size pattern) × ((s < mostVertices) × (t < mostVertices)))
-  askable = rw (index-front, pattern-front) (memory .sorted, (folded keyed .keyed, (omega (arith, given, given .bounds), omega (arith, given, given .bounds))))
+  pub answerable : Answerable (take n index) (take size pattern) s t
+  answerable = rw (index-front, pattern-front) (record {
+    rises = memory .sorted;
+    keyed = folded keyed .keyed;
+    start-small = omega (arith, given, given .bounds);
+    destination-small = omega (arith, given, given .bounds);
+  })
 
   none-refuses : queryRefusal vertices longest s t pattern index ≡ 0
-  none-refuses = asked-later vertices longest s t pattern index (p .asked) ∙ first-is (pass (scans vertices longest index (p .scanned) .0) none)
+  none-refuses = earlier-on vertices longest s t pattern index (p .earlier) ∙ first-is (pass (scans vertices longest index (p .scanned) .0) none)
 
   pub meets : (b : Bool) → Says (take n index) (take size pattern) s t b → saying b ≡ queryCall vertices longest s t pattern index
   meets b says =

@@ -5,8 +5,8 @@ use Rattle.model.specs.Patterns.{keyed?}
 use Rattle.calls.specs.Checks.{vertices?, longest?, ends?, Check, firstRefusal}
 
 module _ (vertices longest start destination : ℕ) (pattern : List ℕ) where
-  abbrev pub asked : List Check
-  asked = (1, vertices? vertices) ∷ (2, longest? longest) ∷ (10, ends? vertices start destination) ∷ (11, keyed? longest pattern) ∷ []
+  abbrev pub earlierChecks : List Check
+  earlierChecks = (1, vertices? vertices) ∷ (2, longest? longest) ∷ (10, ends? vertices start destination) ∷ (11, keyed? longest pattern) ∷ []
 
-  unfoldable pub askedRefusal : ℕ
-  askedRefusal = firstRefusal asked
+  unfoldable pub earlierRefusal : ℕ
+  earlierRefusal = firstRefusal earlierChecks

@@ -2,15 +2,15 @@
 use model::Answer;
 use model::QueryReply;
 use model::Refusal;
-use scan::Scanned;
+use scan::Extent;
 ghost use mathlib.Core.Path.{_≡_};
 ghost use Rattle.model.specs.Replies.{answerOf, answeredOf};
 ghost use Rattle.calls.specs.Query.{queryCall};
-ghost use Rattle.query.specs.Call.{askedRefusal};
+ghost use Rattle.query.specs.Call.{earlierRefusal};
 
 // The checks before that of index memory, in their order: 1, 2, 10 and 11.
 fn check(vertices: u32, longest: u32, start: u32, destination: u32, pattern: &[u8]) -> Answer
-    ensures { λ r. ⌜ answerOf r ≡ askedRefusal vertices longest start destination (now (pattern .entry)) ⌝ }
+    ensures { λ r. ⌜ answerOf r ≡ earlierRefusal vertices longest start destination (now (pattern .entry)) ⌝ }
 {
     let header = checks::check_header(vertices, longest);
     if let Answer::Refused(refusal) = header {
@@ -41,7 +41,7 @@ pub fn query(
         return QueryReply::Refused(refusal);
     }
     let scanned = scan::scan(vertices, longest, index);
-    let Scanned::Entries(n) = scanned else {
+    let Extent::Entries(n) = scanned else {
         return QueryReply::Refused(Refusal::IndexMemory);
     };
     let folded = patterns::minimum_repeat(pattern);

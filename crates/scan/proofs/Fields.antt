@@ -2,7 +2,7 @@
 use mathlib.Core.Path.{_≡_, refl, sym, _∙_}
 use mathlib.Core.Bool.{Bool, true, false}
 use mathlib.Core.List.{List}
-use Prim.Native.Nat.{ℕ, _+_, _*_, _/_, _≤_, _<_}
+use Prim.Native.Nat.{ℕ, _+_, _*_, _≤_, _<_}
 use native.Mathlib.Omega.{arith}
 use native.Mathlib.Decide.{ℕ-discrete, decLt}
 use lib.ListN.{length, getD, set, replicate, length-set, length-replicate, getD-replicate, List·getD-eq-default}
@@ -13,7 +13,7 @@ use Rattle.model.specs.Query.{sideOf, ownerOf, hubOf, codeOf, code?, entry?}
 use Rattle.model.proofs.Tests.{test-false, test-yields}
 use Rattle.model.proofs.IndexMemory.{Valid, test-entry}
 use Rattle.scan.specs.Codes.{slots, slotOf}
-use Rattle.scan.specs.Scan.{Seen, FieldEnd, Within, Hubs}
+use Rattle.scan.specs.Scan.{Seen, FieldEnd, Within, HubsBelow}
 
 -- a number of the empty table
 zeros : (k : ℕ) → getD {A = ℕ} (replicate slots 0) k 0 ≡ 0
@@ -56,15 +56,15 @@ seen-more {longest} {seen} code m q = record { long = length-set seen _ _ ∙ m 
 pub no-entry : (vertices longest x : ℕ) → ¬ Valid vertices longest x → entry? vertices longest x ≡ false
 no-entry vertices longest x n = test-false (test-entry vertices longest x) n
 
--- a number whose other fields are right is one where its code is one
+-- a number whose other fields are right is an entry if its code is one
 pub code-entry : (vertices longest x : ℕ) {b : Bool} → sideOf x < 2 → ownerOf x < vertices → hubOf x < vertices → code? longest (codeOf x) ≡ b
     → entry? vertices longest x ≡ b
 unfolding entry?
 code-entry vertices longest x s o h e = simp (lt-ltb _ _ s, lt-ltb _ _ o, lt-ltb _ _ h, e)
 
 module _ {vertices n : ℕ} (m : FieldEnd vertices n) where
-  pub hubs : Hubs vertices (n * hubUnit)
-  hubs = record {
+  pub hubs-below : HubsBelow vertices (n * hubUnit)
+  hubs-below = record {
     right = λ x h. omega (arith, m .most);
     wrong = λ x h longest. no-entry vertices longest x (λ v. omega (arith, m .least (hubOf x) (omega arith) (v .hub)));
   }

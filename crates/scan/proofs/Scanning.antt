@@ -10,7 +10,7 @@ use Rattle.model.specs.Edges.{zeros?, standing}
 use Rattle.model.specs.Query.{entry?, risingEntries?, indexMemory?}
 use Rattle.model.proofs.Checked.{checked-rest, checked-next}
 use Rattle.scan.specs.Memory.{scanOf, scanFrom}
-use Rattle.scan.specs.declared.Scanned.the-variants.{Entries, Invalid}
+use Rattle.scan.specs.declared.Extent.the-variants.{Entries, Invalid}
 
 module _ (vertices longest prev : ℕ) (s : List ℕ) (i : ℕ) where
   -- nothing rises from slot i on, which may be the end

@@ -9,8 +9,8 @@ use Rattle.model.specs.Limits.{ownerUnit}
 use Rattle.model.specs.Query.{codeOf, entry?}
 use Rattle.scan.specs.Memory.{scanFrom}
 use Rattle.scan.specs.Codes.{slotOf}
-use Rattle.scan.specs.Scan.{Seen, Within, Hubs, Skims}
-use Rattle.scan.specs.declared.Stop.the-variants.{Rest, Fresh, Stray}
+use Rattle.scan.specs.Scan.{Seen, Within, HubsBelow, Skims}
+use Rattle.scan.specs.declared.Exit.the-variants.{Rest, Untested, Stray}
 use Rattle.scan.proofs.Fields.{code-entry}
 use Rattle.scan.proofs.Scanning.{scan-rest, scan-next}
 
@@ -19,7 +19,7 @@ pub record Skimmed (index : List ℕ) (from prev end hubs : ℕ) (seen : List �
   pub high : i ≤ length index
   pub rises : prev ≤ last
   pub same :
-      (vertices longest : ℕ) → Seen longest seen → Within vertices prev end → Hubs vertices hubs
+      (vertices longest : ℕ) → Seen longest seen → Within vertices prev end → HubsBelow vertices hubs
       → scanFrom vertices longest prev from (drop from index) ≡ scanFrom vertices longest last i (drop i index)
 
 module _ {index : List ℕ} {from prev end hubs : ℕ} {seen : List ℕ} where
@@ -34,8 +34,8 @@ module _ {index : List ℕ} {from prev end hubs : ℕ} {seen : List ℕ} where
     skim-end h = skim-rest (omega (arith, List·getD-eq-default index 0 h))
 
     module _ (h : i < length index) (l : last < getD index i 0) where
-      pub skim-fresh : Skims index from prev end hubs seen (Fresh i)
-      skim-fresh = record { slot = (m .low, h); same = λ v k s w u. m .same v k s w u ∙ scan-next v k last index i h l (entry? v k (getD index i 0)) refl }
+      pub skim-untested : Skims index from prev end hubs seen (Untested i)
+      skim-untested = record { slot = (m .low, h); same = λ v k s w u. m .same v k s w u ∙ scan-next v k last index i h l (entry? v k (getD index i 0)) refl }
 
       pub skim-stray : hubs ≤ getD index i 0 % ownerUnit → Skims index from prev end hubs seen Stray
       skim-stray o = record {

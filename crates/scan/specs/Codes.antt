@@ -1,4 +1,4 @@
--- A code as a number: when its digits repeat, and where it is kept once it has passed.
+-- A code as a number: whether its digits repeat, and the slot that it is kept in once it has passed.
 use mathlib.Core.Path.{_≡_}
 use mathlib.Core.Bool.{Bool, true, false}
 use mathlib.Core.List.{List}
@@ -8,12 +8,15 @@ use Rattle.model.specs.Limits.{digitUnit, codeDigits, hubUnit}
 use Rattle.model.specs.Patterns.{times, Keyed}
 use Rattle.model.specs.Query.{digits}
 
--- how many slots there are for codes that have passed, and the slot of a code
+-- how many slots there are for codes that have passed, the multiplier of their hash, and the slot of a code
 abbrev pub slots : ℕ
 slots = 8192
 
+abbrev pub multiplier : ℕ
+multiplier = 1040391
+
 abbrev pub slotOf : ℕ → ℕ
-slotOf c = c * 1040391 / slots % slots
+slotOf c = c * multiplier / slots % slots
 
 -- r says whether P holds
 pub record Detects (P : Type 0) (r : Bool) : Type 0 where

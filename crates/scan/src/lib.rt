@@ -16,13 +16,13 @@ ghost use Rattle.model.specs.Patterns.{keyed?, own?};
 ghost use Rattle.model.specs.Query.{digits, code?};
 ghost use Rattle.scan.specs.Memory.{scanOf};
 ghost use Rattle.scan.specs.Codes.{slotOf, Detects, Repeats, Spelled, Repeatable};
-ghost use Rattle.scan.specs.Scan.{Seen, Looks, FieldEnd, Skims};
+ghost use Rattle.scan.specs.Scan.{Seen, Examines, FieldEnd, Skims};
 
 // The numbers that an owner's field and a hub's field hold.
 const FIELD: u64 = MOST_VERTICES as u64;
 
 // What check 12 finds: how many entries stand, or that this is no index memory of the graph.
-pub enum Scanned {
+pub enum Extent {
     Entries(usize),
     Invalid,
 }
@@ -35,7 +35,7 @@ const SLOTS: usize = 8192;
 
 const MULTIPLIER: u64 = 1040391;
 
-// The slot of a code.
+// The slot of a code: multiplicative hashing.
 fn slot(code: u64) -> usize
     requires { ⌜ code < hubUnit ⌝ }
     ensures { λ r. ⌜ r ≡ slotOf code ⌝ }
@@ -116,7 +116,7 @@ pub fn is_code(longest: u32, code: u64) -> bool
 // Whether x is an entry of the graph. If it is, its code is kept in `seen`, which spares the next with that code the test.
 fn is_entry(vertices: u32, longest: u32, x: u64, seen: &mut [Kept; SLOTS]) -> bool
     requires { ⌜ Seen longest (now seen) ⌝ }
-    ensures { λ r. ⌜ Looks vertices longest x (now (seen .exit)) r ⌝ }
+    ensures { λ r. ⌜ Examines vertices longest x (now (seen .exit)) r ⌝ }
 {
     if 2 <= x / SIDE_UNIT {
         return false;
@@ -146,6 +146,7 @@ fn field_end(vertices: u32) -> u64
     FIELD
 }
 
+// Whether every slot is zero.
 fn all_zero(s: &[u64]) -> bool
     ensures { λ r. ⌜ r ≡ zeros? (now (s .entry)) ⌝ }
 {
@@ -160,17 +161,17 @@ fn all_zero(s: &[u64]) -> bool
 }
 
 // Why check 12 leaves its fast loop. As each way out leads elsewhere, the compiler keeps the tests apart, which is faster than one of all.
-enum Stop {
+enum Exit {
     // from this slot on nothing rises
     Rest(usize),
     // side, owner or code of the entry in this slot is not known to be right
-    Fresh(usize),
+    Untested(usize),
     // a hub is none of the graph
     Stray,
 }
 
 // Goes on over the entries that rise, are below `end`, are below `hubs` by hub and code, and have a code that was seen, as nearly all do.
-fn skim(index: &[u64], from: usize, prev: u64, end: u64, hubs: u64, seen: &[Kept; SLOTS]) -> Stop
+fn skim(index: &[u64], from: usize, prev: u64, end: u64, hubs: u64, seen: &[Kept; SLOTS]) -> Exit
     requires { ⌜ from ≤ length (now index) ⌝ }
     ensures { λ r. ⌜ Skims (now (index .entry)) from prev end hubs (now (seen .entry)) r ⌝ }
 {
@@ -179,13 +180,13 @@ fn skim(index: &[u64], from: usize, prev: u64, end: u64, hubs: u64, seen: &[Kept
     while i < index.len() {
         let x = index[i];
         if x <= last {
-            return Stop::Rest(i);
+            return Exit::Rest(i);
         }
         if end <= x {
-            return Stop::Fresh(i);
+            return Exit::Untested(i);
         }
         if hubs <= x % OWNER_UNIT {
-            return Stop::Stray;
+            return Exit::Stray;
         }
         let code = x % HUB_UNIT;
         let at = slot(code);
@@ -193,14 +194,14 @@ fn skim(index: &[u64], from: usize, prev: u64, end: u64, hubs: u64, seen: &[Kept
             last = x;
             i += 1;
         } else {
-            return Stop::Fresh(i);
+            return Exit::Untested(i);
         }
     }
-    Stop::Rest(i)
+    Exit::Rest(i)
 }
 
 // Check 12, in one pass. From the last entry to `end`, side and owner are right.
-pub fn scan(vertices: u32, longest: u32, index: &[u64]) -> Scanned
+pub fn scan(vertices: u32, longest: u32, index: &[u64]) -> Extent
     ensures { λ r. ⌜ r ≡ scanOf vertices longest (now (index .entry)) ⌝ }
 {
     // no code is kept yet; as 0 is none, its slot, 0, holds another number
@@ -211,22 +212,22 @@ pub fn scan(vertices: u32, longest: u32, index: &[u64]) -> Scanned
     let mut prev: u64 = 0;
     let mut end: u64 = 0;
     loop {
-        let stop = skim(index, i, prev, end, n * HUB_UNIT, &seen);
-        match stop {
-            Stop::Stray => return Scanned::Invalid,
-            Stop::Rest(at) => {
+        let exit = skim(index, i, prev, end, n * HUB_UNIT, &seen);
+        match exit {
+            Exit::Stray => return Extent::Invalid,
+            Exit::Rest(at) => {
                 if all_zero(&index[at..]) {
-                    return Scanned::Entries(at);
+                    return Extent::Entries(at);
                 }
-                return Scanned::Invalid;
+                return Extent::Invalid;
             }
-            Stop::Fresh(at) => {
+            Exit::Untested(at) => {
                 prev = index[at];
                 if is_entry(vertices, longest, prev, &mut seen) {
                     end = prev / SIDE_UNIT * SIDE_UNIT + n * OWNER_UNIT;
                     i = at + 1;
                 } else {
-                    return Scanned::Invalid;
+                    return Extent::Invalid;
                 }
             }
         }

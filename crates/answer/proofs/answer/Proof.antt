@@ -6,12 +6,12 @@ use native.Mathlib.Omega.{arith}
 use borrow.Author.Needs.{needs}
 use Rattle.model.specs.Limits.{mostLongest, hubUnit}
 use Rattle.model.proofs.Patterns.{code-below}
-use Rattle.answer.proofs.Answering.{part-order, part, part-listed, says-target, says-source, says-join}
+use Rattle.answer.proofs.Answering.{part-order, part, part-rises, says-target, says-source, says-join}
 use Rattle.answer.proofs.answer.Statement.{statement}
 use Rattle.answer.proofs.answer.Tie as tie
 
 small : (c : tie.After-code) → c .code .result < hubUnit
-small c = omega (arith, c .code .ensures, code-below (le-refl mostLongest) (c .before .before .before .pre .1 .0))
+small c = omega (arith, c .code .ensures, code-below (le-refl mostLongest) (c .before .before .before .pre .keyed))
 
 code-requires : tie.Need-code-requires
 code-requires c κs = search needs
@@ -100,15 +100,18 @@ part-join-end-2 c = search needs
 join-requires : tie.Need-join-requires
 join-requires c κs =
     let found = c .before .before in
-    let rises = found .before .before .before .before .before .before .before .before .before .before .before .pre .0 in
-    (part-listed (found .before .before .before .lower-bound .ensures) (found .before .before .lower-bound2 .ensures) rises (omega arith), part-listed (found .before .lower-bound3 .ensures) (found .lower-bound4 .ensures) rises (omega arith))
+    let rises = found .before .before .before .before .before .before .before .before .before .before .before .pre .rises in
+    record {
+      out-rises = part-rises (found .before .before .before .lower-bound .ensures) (found .before .before .lower-bound2 .ensures) rises (omega arith);
+      into-rises = part-rises (found .before .lower-bound3 .ensures) (found .lower-bound4 .ensures) rises (omega arith);
+    }
 
 returns-3 : tie.Need-returns-3
 returns-3 c =
     let found = c .before .before .before in
     let lacks = found .before .before .before .before in
     let coded = lacks .before .before .before .before in
-    says-join _ _ _ _ _ (coded .code .ensures) (coded .before .before .before .pre .1 .0)
+    says-join _ _ _ _ _ (coded .code .ensures) (coded .before .before .before .pre .keyed)
     (part (found .before .before .before .lower-bound .ensures) (found .before .before .lower-bound2 .ensures)) (part (found .before .lower-bound3 .ensures) (found .lower-bound4 .ensures))
     (sym (lacks .before .before .before .has .ensures) ∙ lacks .before .before .if1 .left) (sym (lacks .before .has2 .ensures) ∙ lacks .if2 .left) (c .join .ensures)
 

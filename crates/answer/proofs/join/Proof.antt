@@ -51,7 +51,7 @@ loop-again : tie.Need-loop-again Inv-loop μ-loop Inv-join μ-join
 loop-again c =
     let v = c .before .before .before .before .loop .inv in
     let start = c .before .before .before .before .before .before .before .before .before in
-    (omega arith, joining-on (v .1) (start .pre .0) (omega arith), v .2)
+    (omega arith, joining-on (v .1) (start .pre .out-rises) (omega arith), v .2)
 
 add-i : tie.Need-add-i Inv-loop μ-loop Inv-join μ-join
 add-i c = search needs
@@ -62,7 +62,7 @@ join-less c = search needs
 join-again : tie.Need-join-again Inv-loop μ-loop Inv-join μ-join
 join-again c =
     let turn = c .before .before in
-    let listed = turn .before .before .pre .1 in
+    let listed = turn .before .before .pre .into-rises in
     let inside = turn .join-test .taken in
     let v = turn .before .join .inv in
     ⊎-elim

@@ -9,8 +9,8 @@ use Rattle.model.proofs.Replies.{number-some}
 use Rattle.calls.proofs.Checks.{stop, first-is}
 use Rattle.calls.proofs.Query.{query-refused}
 use Rattle.scan.proofs.Scanning.{scans-none}
-use Rattle.query.specs.Call.{askedRefusal}
-use Rattle.query.proofs.Call.{asked-stop, asked-later, Admitted, part-index, part-pattern, askable, meets}
+use Rattle.query.specs.Call.{earlierRefusal}
+use Rattle.query.proofs.Call.{earlier-stop, earlier-on, Admitted, part-index, part-pattern, answerable, meets}
 use Rattle.query.proofs.query.Statement.{statement}
 use Rattle.query.proofs.query.Tie as tie
 
@@ -18,8 +18,8 @@ abbrev start : tie.After-enum-told → tie.Start
 start c = c .before .before .before .before .before
 
 -- the checks before that of index memory have passed
-asked : (c : tie.After-enum-told) → askedRefusal (start c .args .vertices) (start c .args .longest) (start c .args .start) (start c .args .destination) (start c .args .pattern .now) ≡ 0
-asked c = sym (c .before .before .check .ensures) ∙ ap answerOf (c .enum-told .given .1)
+earlier : (c : tie.After-enum-told) → earlierRefusal (start c .args .vertices) (start c .args .longest) (start c .args .start) (start c .args .destination) (start c .args .pattern .now) ≡ 0
+earlier c = sym (c .before .before .check .ensures) ∙ ap answerOf (c .enum-told .given .1)
 
 abbrev told : tie.After-minimum-repeat → tie.After-enum-told
 told c = c .before .before .before .before .before
@@ -27,7 +27,7 @@ told c = c .before .before .before .before .before
 -- and so has that one
 admitted : (c : tie.After-minimum-repeat)
     → Admitted (start (told c) .args .vertices) (start (told c) .args .longest) (start (told c) .args .start) (start (told c) .args .destination) (start (told c) .args .pattern .now) (start (told c) .args .index .now) (c .before .before .scanned .given .0 .0)
-admitted c = record { asked = asked (told c); scanned = sym (c .before .before .before .before .scan .ensures) ∙ c .before .before .scanned .given .1 }
+admitted c = record { earlier = earlier (told c); scanned = sym (c .before .before .before .before .scan .ensures) ∙ c .before .before .scanned .given .1 }
 
 check-requires : tie.Need-check-requires
 check-requires c κs = search needs
@@ -37,7 +37,7 @@ enum-known-checked c = search needs
 
 returns : tie.Need-returns
 returns c = query-refused _ _ _ _ _ _ (c .before .checked .given .0 .0)
-    (asked-stop _ _ _ _ _ _ (sym (c .before .before .before .check .ensures) ∙ ap answerOf (c .before .checked .given .1)) (number-some (c .before .checked .given .0 .0)))
+    (earlier-stop _ _ _ _ _ _ (sym (c .before .before .before .check .ensures) ∙ ap answerOf (c .before .checked .given .1)) (number-some (c .before .checked .given .0 .0)))
 
 enum-told : tie.Need-enum-told
 enum-told c = search needs
@@ -54,7 +54,7 @@ enum-told-2 c = search needs
 returns-2 : tie.Need-returns-2
 returns-2 c =
     let none = scans-none _ _ _ (sym (c .before .before .scan .ensures) ∙ c .enum-told2 .given .1) in
-    query-refused _ _ _ _ _ _ IndexMemory (asked-later _ _ _ _ _ _ (asked (c .before .before .before)) ∙ first-is (stop none))
+    query-refused _ _ _ _ _ _ IndexMemory (earlier-on _ _ _ _ _ _ (earlier (c .before .before .before)) ∙ first-is (stop none))
 
 minimum-repeat-requires : tie.Need-minimum-repeat-requires
 minimum-repeat-requires c κs = search needs
@@ -66,7 +66,7 @@ slice-aggregate-answer-2 : tie.Need-slice-aggregate-answer-2
 slice-aggregate-answer-2 c = sym (length-take-le _ (start (told (c .before .before)) .args .pattern .now) (part-pattern (admitted (c .before .before)) _ (c .before .before .minimum-repeat .ensures)))
 
 answer-requires : tie.Need-answer-requires
-answer-requires c κs = askable (admitted (c .before .before)) _ (c .before .before .minimum-repeat .ensures)
+answer-requires c κs = answerable (admitted (c .before .before)) _ (c .before .before .minimum-repeat .ensures)
 
 returns-3 : tie.Need-returns-3
 returns-3 c =

@@ -3,7 +3,7 @@ use Prim.Native.Nat.{_-_}
 use native.Mathlib.Omega.{arith}
 use borrow.Author.Needs.{needs}
 use lib.ListN.{length}
-use Rattle.scan.proofs.Skimming.{Skimmed, skim-start, skim-rest, skim-end, skim-fresh, skim-stray, skim-more}
+use Rattle.scan.proofs.Skimming.{Skimmed, skim-start, skim-rest, skim-end, skim-untested, skim-stray, skim-more}
 use Rattle.scan.proofs.skim.Statement.{statement}
 use Rattle.scan.proofs.skim.Tie as tie
 
@@ -28,7 +28,7 @@ returns c = skim-rest (c .before .before .before .loop .inv) (omega (arith, c .i
 returns-2 : tie.Need-returns-2 Inv-loop μ-loop
 returns-2 c =
     let t = c .before .before .before in
-    skim-fresh (t .before .loop .inv) (t .loop-test .taken) (c .before .if1 .left)
+    skim-untested (t .before .loop .inv) (t .loop-test .taken) (c .before .if1 .left)
 
 returns-3 : tie.Need-returns-3 Inv-loop μ-loop
 returns-3 c =
@@ -63,7 +63,7 @@ returns-4 : tie.Need-returns-4 Inv-loop μ-loop
 returns-4 c =
     let n = c .before .before .before in
     let t = n .before .before .before .before in
-    skim-fresh (t .before .loop .inv) (t .loop-test .taken) (n .before .before .if1 .left)
+    skim-untested (t .before .loop .inv) (t .loop-test .taken) (n .before .before .if1 .left)
 
 returns-5 : tie.Need-returns-5 Inv-loop μ-loop
 returns-5 c = skim-end (c .before .loop .inv) (c .loop-test .left)
