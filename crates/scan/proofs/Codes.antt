@@ -19,6 +19,7 @@ use Rattle.model.specs.Query.{digits, code?}
 use Rattle.model.proofs.Tests.{test-map, test-agree, test-and, test-le, test-lt, test-same, test-false, test-yields, test-fails, both-ways}
 use Rattle.model.proofs.Lists.{Below, below-more}
 use Rattle.model.proofs.Patterns.{Digits, length-times, times-pos, times-one, min-repeat, test-own, test-keyed}
+use Rattle.model.proofs.IndexMemory.{code-some}
 use Rattle.model.proofs.Codes.{digits-zero, digits-end, digits-more, digits-short, code-one, code-short, code-end, times-in, written, code-times, written-last, written-more, code-digits}
 use Rattle.scan.specs.Codes.{Detects, Repeats, Spelled, Repeatable}
 
@@ -132,6 +133,15 @@ module _ {c d unit last word size : ℕ} where
       go zero h e = absurd (m e)
       go (suc n) h e = record { n = n; fits = omega (arith, suc-mul n d); is = e }
 
+-- a word of d labels that is written n + 2 times
+module _ {d : ℕ} (n : ℕ) (w : List ℕ) (long : length w ≡ d) where
+  size-times : length (times (suc (suc n)) w) ≡ d + d + n * d
+  size-times = omega (arith, rw long at (length-times (suc (suc n)) w), suc-mul (suc n) d, suc-mul n d)
+
+  written-times : code (times (suc (suc n)) w) ≡ written (digitUnit ^ d) (code w) (code w) (suc n)
+  unfolding written
+  written-times = code-times (suc (suc n)) 0 w ∙ rw (long, zero-mul (digitUnit ^ d), zero-add (code w)) refl
+
 -- a code spelled by labels, and its last d digits
 module _ (c d : ℕ) (s : Spelled c) where
   abbrev l : List ℕ
@@ -143,41 +153,19 @@ module _ (c d : ℕ) (s : Spelled c) where
   spelled : code l ≡ c
   spelled = code-digits codeDigits c (s .below)
 
-  -- a word of d labels that is written n + 2 times
-  writes : (n : ℕ) (w : List ℕ) → length w ≡ d → code (times (suc (suc n)) w) ≡ written unit (code w) (code w) (suc n)
-  unfolding written
-  writes n w e = code-times (suc (suc n)) 0 w ∙ rw (e, zero-mul unit, zero-add (code w)) refl
-
-  size : (n : ℕ) (w : List ℕ) → length w ≡ d → length (times (suc (suc n)) w) ≡ d + d + n * d
-  size n w e = omega (arith, rw e at (length-times (suc (suc n)) w), suc-mul (suc n) d, suc-mul n d)
-
   some : 1 ≤ c
-  some = elim (ℕ-discrete c 0) [
-    | yes e ↦ let none : digits codeDigits c ≡ [] = rw e (digits-zero codeDigits) in absurd (omega (arith, ap length none, s .keyed .long))
-    | no e ↦ omega arith
-  ]
+  some = omega (arith, spelled, code-some l (s .keyed))
 
-  there : (n : ℕ) (w : List ℕ) → length w ≡ d → times (suc (suc n)) w ≡ l → Remaining c d unit (c % unit) (c % unit) (d + d)
+  repeats-there : Repeats l d → Remaining c d unit (c % unit) (c % unit) (d + d)
   unfolding times
-  there n w long e =
-      let labels : Digits w = λ x m. s .keyed .labels x (rw e at (Memᴰ·append-left (times (suc n) w) m)) in
-      let is : written unit (code w) (code w) (suc n) ≡ c = sym (writes n w long) ∙ ap code e ∙ spelled in
-      let last : c % unit ≡ code w = ap (λ (m : ℕ). m % unit) (sym is) ∙ written-last unit (code w) (code w) n (rw long at (code-short w labels)) in
-      record {
-        n = n;
-        fits = omega (arith, s .keyed .short, ap length e, size n w long);
-        is = rw last is;
-      }
+  repeats-there r =
+      let w = r .word in
+      let labels : Digits w = λ x m. s .keyed .labels x (rw (r .is) at (Memᴰ·append-left (times (suc (r .n)) w) m)) in
+      let is : written unit (code w) (code w) (suc (r .n)) ≡ c = sym (written-times (r .n) w (r .long)) ∙ ap code (r .is) ∙ spelled in
+      let last : c % unit ≡ code w = ap (λ (m : ℕ). m % unit) (sym is) ∙ written-last unit (code w) (code w) (r .n) (rw (r .long) at (code-short w labels)) in
+      record { n = r .n; fits = omega (arith, s .keyed .short, ap length (r .is), size-times (r .n) w (r .long)); is = rw last is }
 
-  pub repeats-there : Repeats l d → Remaining c d unit (c % unit) (c % unit) (d + d)
-  repeats-there r = go (r .often) (r .twice) (r .is)
-    where
-      go : (j : ℕ) → 2 ≤ j → times j (r .word) ≡ l → Remaining c d unit (c % unit) (c % unit) (d + d)
-      go zero h e = absurd (omega arith)
-      go (suc zero) h e = absurd (omega arith)
-      go (suc (suc n)) h e = there n (r .word) (r .long) e
-
-  pub repeats-back : Remaining c d unit (c % unit) (c % unit) (d + d) → Repeats l d
+  repeats-back : Remaining c d unit (c % unit) (c % unit) (d + d) → Repeats l d
   unfolding written
   repeats-back r = elim (decLt d (length l)) [
     | yes h ↦
@@ -188,11 +176,10 @@ module _ (c d : ℕ) (s : Spelled c) where
         let last : c % unit ≡ code w = rw (long, whole, spelled) at (code-end (take (length l - d) l) w labels) in
         record {
           word = w;
-          often = suc (suc (r .n));
+          n = r .n;
           long = long;
-          twice = omega arith;
-          is = code-one (omega (arith, r .fits, size (r .n) w long)) (s .keyed .short) (λ x m. labels x (times-in (suc (suc (r .n))) m)) (s .keyed .labels)
-              (writes (r .n) w long ∙ rw last at (r .is) ∙ sym spelled);
+          is = code-one (omega (arith, r .fits, size-times (r .n) w long)) (s .keyed .short) (λ x m. labels x (times-in (suc (suc (r .n))) m)) (s .keyed .labels)
+              (written-times (r .n) w long ∙ rw last at (r .is) ∙ sym spelled);
         }
     | no h ↦
         let one : 1 ≤ unit = one-le-pow d digitUnit (omega arith) in
@@ -201,32 +188,30 @@ module _ (c d : ℕ) (s : Spelled c) where
         absurd (omega (arith, again, written-more unit c (c * unit + c) (r .n) one, le-mul-of-pos-right c one, some))
   ]
 
--- the writings that remain decide; word has d digits less than the next
+-- the writings that remain decide
 pub record Trying (c d unit word size : ℕ) : Type 0 where
   pub there : Repeats (digits codeDigits c) d → Remaining c d unit (c % unit) word size
   pub back : Remaining c d unit (c % unit) word size → Repeats (digits codeDigits c) d
-  pub n : ℕ
-  pub fewer : n + d ≡ size
-  pub small : word < digitUnit ^ n
+  pub small : suc word * unit ≤ digitUnit ^ size
 
 module _ {c d unit : ℕ} (p : Repeatable c d unit) where
   pub unit-some : 1 ≤ unit
   unit-some = rw (p .is) (one-le-pow d digitUnit (omega arith))
 
+  -- d digits more
+  higher : (size : ℕ) {m : ℕ} → m ≤ digitUnit ^ size → m * unit ≤ digitUnit ^ (size + d)
+  higher size h = rw (pow-add digitUnit size d, ← (p .is)) (mul-le-mul-right unit h)
+
   pub trying-start : Trying c d unit (c % unit) (d + d)
-  trying-start = rw (p .is) (record {
-    there = repeats-there c d (p .spelled);
-    back = repeats-back c d (p .spelled);
-    n = d;
-    fewer = refl;
-    small = mod-lt c (one-le-pow d digitUnit (omega arith));
-  })
+  trying-start = record {
+    there = rw (p .is) (repeats-there c d (p .spelled));
+    back = rw (p .is) (repeats-back c d (p .spelled));
+    small = higher d (omega (arith, p .is, mod-lt c unit-some));
+  }
 
   module _ {word size : ℕ} (m : Trying c d unit word size) where
     next-small : word * unit + c % unit < digitUnit ^ size
-    next-small =
-        let more : digitUnit ^ size ≡ digitUnit ^ (m .n) * unit = rw (← (m .fewer), p .is) (pow-add digitUnit (m .n) d) in
-        omega (arith, mul-le-mul-right unit (m .small), suc-mul word unit, mod-lt c unit-some)
+    next-small = omega (arith, m .small, suc-mul word unit, mod-lt c unit-some)
 
     pub trying-fits : size ≤ codeDigits → word * unit + c % unit < hubUnit
     trying-fits h = omega (arith, next-small, pow-le-pow-right {n = digitUnit} (omega arith) h)
@@ -235,13 +220,7 @@ module _ {c d unit : ℕ} (p : Repeatable c d unit) where
     trying-found h e = record { yields = λ _. m .back (remaining-here h e); misses = λ e. absurd (let z : _≡_ {A = ℕ} 0 1 = cc in omega arith) }
 
     pub trying-more : ¬ (word * unit + c % unit ≡ c) → Trying c d unit (word * unit + c % unit) (size + d)
-    trying-more e = record {
-      there = λ r. remaining-later e (m .there r);
-      back = λ r. m .back (remaining-back r);
-      n = size;
-      fewer = refl;
-      small = next-small;
-    }
+    trying-more e = record { there = λ r. remaining-later e (m .there r); back = λ r. m .back (remaining-back r); small = higher size next-small }
 
     pub trying-none : codeDigits < size → Detects (Repeats (digits codeDigits c) d) false
     trying-none h = record {
@@ -249,28 +228,23 @@ module _ {c d unit : ℕ} (p : Repeatable c d unit) where
       misses = λ _ r. let k = m .there r in omega (arith, k .fits);
     }
 
--- ---- which codes repeat
+-- ---- which words repeat
 
--- so many digits, twice at least, are no more than the code has
-module _ {c d : ℕ} (s : Spelled c) (r : Repeats (digits codeDigits c) d) where
-  pub repeats-within : d + d ≤ length (digits codeDigits c)
-  repeats-within = omega (arith, ap length (r .is), rw (r .long) at (length-times (r .often) (r .word)), mul-le-mul-right d (r .twice))
+module _ {l : List ℕ} (some : 1 ≤ length l) where
+  repeats-within : {d : ℕ} → Repeats l d → d + d ≤ length l
+  repeats-within r = omega (arith, ap length (r .is), size-times (r .n) (r .word) (r .long))
 
-  pub repeats-own : 1 ≤ d → own? (digits codeDigits c) ≡ false
-  repeats-own h = test-false (test-own (digits codeDigits c) (s .keyed .long)) (λ o. omega (arith, o .least (r .word) (r .often) (r .is), r .long, repeats-within))
+  pub repeats-own : {d : ℕ} → Repeats l d → 1 ≤ d → own? l ≡ false
+  repeats-own r h = test-false (test-own l some) (λ o. omega (arith, o .least (r .word) (suc (suc (r .n))) (r .is), r .long, repeats-within r))
 
-own-repeats : {c : ℕ} → Spelled c → own? (digits codeDigits c) ≡ false → (d : ℕ) × (1 ≤ d) × Repeats (digits codeDigits c) d
-unfolding own?
-own-repeats {c} s e = let (j, q) = min-repeat l (s .keyed .long) .often in go j (minRepeat l) q (test-fails (test-same (minRepeat l) l) e)
-  where
-    l : List ℕ
-    l = digits codeDigits c
-
-    go : (j : ℕ) (w : List ℕ) → times j w ≡ l → ¬ (w ≡ l) → (d : ℕ) × (1 ≤ d) × Repeats l d
-    go zero w q n = absurd (omega (arith, ap length q, length-times 0 w, s .keyed .long))
-    go (suc zero) w q n = absurd (n (sym (times-one w) ∙ q))
-    go (suc (suc j)) w q n =
-        (length w, times-pos (suc (suc j)) w l q (s .keyed .long), record { word = w; often = suc (suc j); long = refl; twice = omega arith; is = q })
+  own-repeats : own? l ≡ false → (d : ℕ) × (1 ≤ d) × Repeats l d
+  unfolding own?
+  own-repeats e = let (j, q) = min-repeat l some .often in go j (minRepeat l) q (test-fails (test-same (minRepeat l) l) e)
+    where
+      go : (j : ℕ) (w : List ℕ) → times j w ≡ l → ¬ (w ≡ l) → (d : ℕ) × (1 ≤ d) × Repeats l d
+      go zero w q n = absurd (omega (arith, ap length q, length-times 0 w))
+      go (suc zero) w q n = absurd (n (sym (times-one w) ∙ q))
+      go (suc (suc j)) w q n = (length w, times-pos (suc (suc j)) w l q some, record { word = w; n = j; long = refl; is = q })
 
 -- no number of digits below d repeats; d digits count up to unit
 pub record Unrepeated (c d unit : ℕ) : Type 0 where
@@ -296,8 +270,8 @@ module _ {c d unit : ℕ} (m : Unrepeated c d unit) where
 
   pub unrepeated-end : codeDigits < d + d → Spelled c → own? (digits codeDigits c) ≡ true
   unrepeated-end h s = both-ways (own? (digits codeDigits c)) (λ e. e) (λ e.
-      let (n, some, r) = own-repeats s e in
-      absurd (m .none .at n (omega (arith, repeats-within s r, s .keyed .short)) some r))
+      let (n, some, r) = own-repeats (s .keyed .long) e in
+      absurd (m .none .at n (omega (arith, repeats-within (s .keyed .long) r, s .keyed .short)) some r))
 
 -- ---- the whole test
 

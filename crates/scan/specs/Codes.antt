@@ -2,7 +2,7 @@
 use mathlib.Core.Path.{_≡_}
 use mathlib.Core.Bool.{Bool, true, false}
 use mathlib.Core.List.{List}
-use Prim.Native.Nat.{ℕ, _+_, _*_, _/_, _%_, _^_, _≤_, _<_}
+use Prim.Native.Nat.{ℕ, suc, _+_, _*_, _/_, _%_, _^_, _≤_, _<_}
 use lib.ListN.{length}
 use Rattle.model.specs.Limits.{digitUnit, codeDigits, hubUnit}
 use Rattle.model.specs.Patterns.{times, Keyed}
@@ -23,13 +23,12 @@ pub record Detects (P : Type 0) (r : Bool) : Type 0 where
   pub yields : r ≡ true → P
   pub misses : r ≡ false → ¬ P
 
--- l is d labels, written twice or more
+-- l is d labels, written n + 2 times
 pub record Repeats (l : List ℕ) (d : ℕ) : Type 0 where
   pub word : List ℕ
-  pub often : ℕ
+  pub n : ℕ
   pub long : length word ≡ d
-  pub twice : 2 ≤ often
-  pub is : times often word ≡ l
+  pub is : times (suc (suc n)) word ≡ l
 
 -- a code whose digits are labels
 pub record Spelled (c : ℕ) : Type 0 where

@@ -29,7 +29,7 @@ repeats-by-requires c κs =
 returns : tie.Need-returns Inv-loop μ-loop
 returns c =
     let l = c .before .before .before in
-    sym (ap not (repeats-own (l .before .pre) (c .before .repeats-by .ensures .yields (c .if1 .taken)) (l .loop .inv .some)))
+    sym (ap not (repeats-own (l .before .pre .keyed .long) (c .before .repeats-by .ensures .yields (c .if1 .taken)) (l .loop .inv .some)))
 
 add-d : tie.Need-add-d Inv-loop μ-loop
 add-d c = let m = c .before .before .before .loop .inv in search needs

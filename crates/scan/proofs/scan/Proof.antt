@@ -37,7 +37,7 @@ slots c = start c .args .index .now
 abbrev whole : tie.After-skim Inv-loop μ-loop → Extent
 whole c = scanOf (start c .args .vertices) (start c .args .longest) (slots c)
 
--- where skim extentAt says what all slots say
+-- how skim was left says what all slots say
 skimmed : (c : tie.After-skim Inv-loop μ-loop) {r : Exit} → c .skim .result ≡ r
     → whole c ≡ extentAt (start c .args .vertices) (start c .args .longest) (slots c) r
 skimmed c e =
