@@ -57,55 +57,45 @@ module _ (g rest : ℕ) (low : rest < hubUnit) where
         ∙ ap (λ (b : Bool). all? label? (digits g (rest / digitUnit)) && b) (rw next at (label-digit (rest - 1))))
   ]
 
--- of the last i digits n are there, all labels, and those of the rest decide
-pub record Left (longest c n i rest : ℕ) : Type 0 where
-  pub f : ℕ
-  pub room : f + i ≡ codeDigits
-  pub count : n ≤ i
+-- of the last digits n are there, all labels, and those of the rest, at most f, decide
+pub record Left (longest c n f rest : ℕ) : Type 0 where
+  pub count : n + f ≤ codeDigits
   pub low : rest < hubUnit
   pub same : keyed? longest (digits codeDigits c) ≡ within? 1 longest (n + length (digits f rest)) && all? label? (digits f rest)
 
-pub left-start : (longest c : ℕ) → c < hubUnit → Left longest c 0 0 c
+pub left-start : (longest c : ℕ) → c < hubUnit → Left longest c 0 codeDigits c
 unfolding keyed?
 left-start longest c h =
     let size : 0 + length (digits codeDigits c) ≡ length (digits codeDigits c) = omega arith in
-    record { f = codeDigits; room = refl; count = omega arith; low = h; same = rw size refl }
+    record { count = omega arith; low = h; same = rw size refl }
 
-module _ (longest c n i rest : ℕ) (short : i < codeDigits) (count : n ≤ i) (low : rest < hubUnit) where
-  -- one digit more is looked at
-  step : (f : ℕ) → f + i ≡ codeDigits → (b : Bool) → ltb ((rest - someOf rest) % digitUnit) mostLabel ≡ b
-      → (g : ℕ) × (g + (i + 1) ≡ codeDigits)
-      × (within? 1 longest (n + length (digits f rest)) && all? label? (digits f rest)
-      ≡ within? 1 longest (n + someOf rest + length (digits g (rest / digitUnit))) && (all? label? (digits g (rest / digitUnit)) && b))
-  step zero r b t = absurd (omega arith)
-  step (suc g) r b t =
-      let size : n + length (digits (suc g) rest) ≡ n + someOf rest + length (digits g (rest / digitUnit)) = omega (arith, length-step g rest low) in
-      (g, omega arith, rw (size, labels-step g rest low, t) refl)
+-- one digit more is looked at
+left-step : {longest c n f rest : ℕ} → Left longest c n f rest → 1 ≤ f → (b : Bool) → ltb ((rest - someOf rest) % digitUnit) mostLabel ≡ b
+    → keyed? longest (digits codeDigits c)
+    ≡ within? 1 longest (n + someOf rest + length (digits (f - 1) (rest / digitUnit))) && (all? label? (digits (f - 1) (rest / digitUnit)) && b)
+left-step {f = zero} m h b t = absurd (omega arith)
+left-step {n = n} {f = suc g} {rest = rest} m h b t =
+    let one : suc g - 1 ≡ g = omega arith in
+    let size : n + length (digits (suc g) rest) ≡ n + someOf rest + length (digits g (rest / digitUnit)) = omega (arith, length-step g rest (m .low)) in
+    rw one (m .same ∙ rw (size, labels-step g rest (m .low), t) refl)
 
-module _ {longest c n i rest : ℕ} (m : Left longest c n i rest) where
-  pub left-more : i < codeDigits → (rest - someOf rest) % digitUnit < mostLabel → Left longest c (n + someOf rest) (i + 1) (rest / digitUnit)
-  left-more h t =
-      let (g, room, same) = step longest c n i rest h (m .count) (m .low) (m .f) (m .room) true (lt-ltb _ _ t) in
-      record {
-        f = g;
-        room = room;
-        count = omega (arith, m .count, m .low);
-        low = omega (arith, m .low);
-        same = m .same ∙ same ∙ rw (and-true (all? label? (digits g (rest / digitUnit)))) refl;
-      }
+module _ {longest c n f rest : ℕ} (m : Left longest c n f rest) where
+  pub left-more : 1 ≤ f → (rest - someOf rest) % digitUnit < mostLabel → Left longest c (n + someOf rest) (f - 1) (rest / digitUnit)
+  left-more h t = record {
+    count = omega (arith, m .count, m .low);
+    low = omega (arith, m .low);
+    same = left-step m h true (lt-ltb _ _ t) ∙ rw (and-true (all? label? (digits (f - 1) (rest / digitUnit)))) refl;
+  }
 
-  pub left-other : i < codeDigits → mostLabel ≤ (rest - someOf rest) % digitUnit → false ≡ keyed? longest (digits codeDigits c)
-  left-other h t =
-      let (g, room, same) = step longest c n i rest h (m .count) (m .low) (m .f) (m .room) false (le-ltb _ _ t) in
-      sym (m .same ∙ same ∙ rw (and-false (all? label? (digits g (rest / digitUnit)))) (and-false (within? 1 longest (n + someOf rest + length (digits g (rest / digitUnit))))))
+  pub left-other : 1 ≤ f → mostLabel ≤ (rest - someOf rest) % digitUnit → false ≡ keyed? longest (digits codeDigits c)
+  left-other h t = sym (left-step m h false (le-ltb _ _ t)
+      ∙ rw (and-false (all? label? (digits (f - 1) (rest / digitUnit)))) (and-false (within? 1 longest (n + someOf rest + length (digits (f - 1) (rest / digitUnit))))))
 
-  pub left-end : codeDigits ≤ i → keyed? longest (digits codeDigits c) ≡ within? 1 longest n
+  pub left-end : f ≡ 0 → keyed? longest (digits codeDigits c) ≡ within? 1 longest n
   unfolding all?
-  left-end h =
-      let last : m .f ≡ 0 = omega (arith, m .room) in
-      let empty : digits (m .f) rest ≡ [] = rw last (digits-end rest) in
-      let size : n + length (digits (m .f) rest) ≡ n = rw empty (omega arith) in
-      let labels : all? label? (digits (m .f) rest) ≡ true = rw empty refl in
+  left-end e =
+      let size : n + length (digits f rest) ≡ n = rw (e, digits-end rest) (omega arith) in
+      let labels : all? label? (digits f rest) ≡ true = rw (e, digits-end rest) refl in
       m .same ∙ rw (size, labels) (and-true _)
 
 -- ---- fewer digits, written twice or more

@@ -1,5 +1,6 @@
 -- Codes that were seen, and the ends below which side, owner and hub are right.
 use mathlib.Core.Path.{_≡_, refl, sym, _∙_}
+use mathlib.Core.Logic.{_⊎_, inl, inr, ⊎-elim, _≢_}
 use mathlib.Core.Bool.{Bool, true, false}
 use mathlib.Core.List.{List}
 use Prim.Native.Nat.{ℕ, _+_, _*_, _≤_, _<_}
@@ -22,35 +23,30 @@ zeros k = elim (decLt k slots) [
   | no l ↦ let h : length {A = ℕ} (replicate slots 0) ≤ k = omega (arith, length-replicate {A = ℕ} slots 0) in List·getD-eq-default (replicate slots 0) 0 h
 ]
 
+-- what is found in a slot once v is kept in slot i: v, or what was found there before
+found : (seen : List ℕ) (i v k c : ℕ) → i < length seen → getD (set seen i v) k 0 ≡ c → ((k ≡ i) × (c ≡ v)) ⊎ ((k ≢ i) × (getD seen k 0 ≡ c))
+found seen i v k c h e = elim (ℕ-discrete k i) [
+  | yes p ↦ inl (p, sym e ∙ rw p (getD-set-same seen i v 0 h))
+  | no p ↦ inr (p, sym (getD-set-other seen i k v 0 p) ∙ e)
+]
+
 -- no code yet, and one code more
 pub seen-none : (longest : ℕ) → Seen longest (set (replicate slots 0) 0 1)
-seen-none longest = record { long = length-set {A = ℕ} (replicate slots 0) 0 1 ∙ length-replicate {A = ℕ} slots 0; right = right }
-  where
-    right : (c : ℕ) → getD (set (replicate slots 0) 0 1) (slotOf c) 0 ≡ c → code? longest c ≡ true
-    right c e = elim (ℕ-discrete (slotOf c) 0) [
-      | yes p ↦
-          let one : getD {A = ℕ} (set (replicate slots 0) 0 1) (slotOf c) 0 ≡ 1 =
-          rw p (getD-set-same {A = ℕ} (replicate slots 0) 0 1 0 (omega (arith, length-replicate {A = ℕ} slots 0))) in
-          let f : c ≡ 1 = sym e ∙ one in
-          let z : slotOf 1 ≡ 0 = rw f at p in
-          absurd (omega arith)
-      | no p ↦
-          let none : getD {A = ℕ} (set (replicate slots 0) 0 1) (slotOf c) 0 ≡ 0 = getD-set-other {A = ℕ} (replicate slots 0) 0 (slotOf c) 1 0 p ∙ zeros (slotOf c) in
-          let f : c ≡ 0 = sym e ∙ none in
-          absurd (p (rw f refl))
-    ]
+seen-none longest =
+    let long = length-replicate {A = ℕ} slots 0 in
+    record {
+      long = length-set {A = ℕ} (replicate slots 0) 0 1 ∙ long;
+      right = λ c e. absurd (⊎-elim
+          (λ (p, q). let z : slotOf 1 ≡ 0 = rw q at p in omega arith)
+          (λ (p, q). let z : c ≡ 0 = sym q ∙ zeros (slotOf c) in p (rw z refl))
+          (found (replicate slots 0) 0 1 (slotOf c) c (omega arith) e));
+    }
 
 pub seen-more : {longest : ℕ} {seen : List ℕ} (code : ℕ) → Seen longest seen → code? longest code ≡ true → Seen longest (set seen (slotOf code) code)
-seen-more {longest} {seen} code m q = record { long = length-set seen _ _ ∙ m .long; right = right }
-  where
-    right : (c : ℕ) → getD (set seen (slotOf code) code) (slotOf c) 0 ≡ c → code? longest c ≡ true
-    right c e = elim (ℕ-discrete (slotOf c) (slotOf code)) [
-      | yes p ↦
-          let same : getD (set seen (slotOf code) code) (slotOf c) 0 ≡ code = rw p (getD-set-same seen (slotOf code) code 0 (omega (arith, m .long))) in
-          let g : c ≡ code = sym e ∙ same in
-          rw g q
-      | no p ↦ m .right c (sym (getD-set-other seen (slotOf code) (slotOf c) code 0 p) ∙ e)
-    ]
+seen-more {longest} {seen} code m h = record {
+  long = length-set seen _ _ ∙ m .long;
+  right = λ c e. ⊎-elim (λ (p, q). rw q h) (λ (p, q). m .right c q) (found seen (slotOf code) code (slotOf c) c (omega (arith, m .long)) e);
+}
 
 -- a number with a wrong field is no entry
 pub no-entry : (vertices longest x : ℕ) → ¬ Valid vertices longest x → entry? vertices longest x ≡ false

@@ -50,8 +50,8 @@ fn are_labels(longest: u32, code: u64) -> bool
 {
     let mut rest = code;
     let mut length = 0;
-    let mut i = 0;
-    while i < CODE_DIGITS {
+    let mut left = CODE_DIGITS;
+    while 0 < left {
         // 1 if digits are left, else 0, without a branch: codes of all lengths are mixed
         let some = (rest + (HUB_UNIT - 1)) / HUB_UNIT;
         if MOST_LABEL as u64 <= (rest - some) % DIGIT_UNIT {
@@ -59,7 +59,7 @@ fn are_labels(longest: u32, code: u64) -> bool
         }
         rest = rest / DIGIT_UNIT;
         length += some;
-        i += 1;
+        left -= 1;
     }
     if length < 1 {
         return false;
