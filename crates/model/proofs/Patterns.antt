@@ -49,7 +49,7 @@ code-same a b (c ∷ l) (d ∷ m) p q dl dm e =
     (omega arith, ap₂ _∷_ hc i)
 
 pub code-below : {k : ℕ} {l : List ℕ} → k ≤ mostLongest → Keyed k l → code l < hubUnit
-code-below {k} {l} h p = code-lt mostLongest 0 1 l (omega (arith, p .short)) (p .labels) (omega arith)
+code-below {k} {l} h p = omega (arith, code-lt mostLongest 0 1 l (omega (arith, p .short)) (p .labels) (omega arith))
 
 pub code-inj : {k : ℕ} {l m : List ℕ} → Pattern k l → Pattern k m → code l ≡ code m → l ≡ m
 unfolding codeFrom

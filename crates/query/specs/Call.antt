@@ -1,26 +1,13 @@
--- What the query's checks hand on.
-use mathlib.Core.Path.{_≡_}
-use mathlib.Core.List.{List}
-use Prim.Native.Nat.{ℕ, _<_}
-use Rattle.model.specs.Edges.{Bounds}
-use Rattle.model.specs.Patterns.{Keyed}
-use Rattle.model.specs.Replies.{numberOf}
-use Rattle.calls.specs.Call.{Header, Memory}
-use Rattle.calls.specs.Query.{queryRefusal}
-use Rattle.query.specs.Memory.{scanOf}
-use Rattle.query.specs.declared.Scanned.the-variants.{Entries}
-use Rattle.query.specs.declared.Checked.{Checked}
-use Rattle.query.specs.declared.Checked.the-variants.{Refused, Passed}
+-- The query's checks that come before that of index memory.
+use mathlib.Core.List.{List, [], _∷_}
+use Prim.Native.Nat.{ℕ}
+use Rattle.model.specs.Patterns.{keyed?}
+use Rattle.calls.specs.Checks.{vertices?, longest?, ends?, Check, firstRefusal}
+use Rattle.calls.specs.Call.{Header}
 
--- all have passed, and n entries stand
-pub record QueryPasses (h : Header) (start destination : ℕ) (pattern : List ℕ) (m : Memory) (n : ℕ) : Type 0 where
-  pub is : queryRefusal h start destination pattern m ≡ 0
-  pub header : Bounds (h .vertices) (h .longest)
-  pub start-vertex : start < h .vertices
-  pub destination-vertex : destination < h .vertices
-  pub keyed : Keyed (h .longest) pattern
-  pub scanned : scanOf (h .vertices) (h .longest) (m .index) ≡ Entries n
+module _ (h : Header) (start destination : ℕ) (pattern : List ℕ) where
+  abbrev pub earlierChecks : List Check
+  earlierChecks = (1, vertices? (h .vertices)) ∷ (2, longest? (h .longest)) ∷ (10, ends? (h .vertices) start destination) ∷ (11, keyed? (h .longest) pattern) ∷ []
 
-abbrev pub QueryChecks : Header → (start destination : ℕ) → List ℕ → Memory → Checked → Type 0
-QueryChecks h start destination pattern m (Refused r) = queryRefusal h start destination pattern m ≡ numberOf r
-QueryChecks h start destination pattern m (Passed n) = QueryPasses h start destination pattern m n
+  unfoldable pub earlierRefusal : ℕ
+  earlierRefusal = firstRefusal earlierChecks

@@ -1,0 +1,48 @@
+-- The loop of check 12: the slots from i on say what all of them say. And what the check says to a caller.
+use mathlib.Core.Path.{_≡_, refl}
+use mathlib.Core.Bool.{Bool, true, false, cond}
+use mathlib.Core.List.{List}
+use Prim.Native.Nat.{ℕ, _+_, _≤_, _<_}
+use native.Mathlib.Nat.{zero-add}
+use native.Mathlib.Omega.{arith}
+use lib.ListN.{length, getD, drop}
+use Rattle.model.specs.Edges.{zeros?, standing}
+use Rattle.model.specs.Query.{entry?, risingEntries?, indexMemory?}
+use Rattle.model.proofs.Checked.{checked-rest, checked-next}
+use Rattle.scan.specs.Memory.{scanOf, scanFrom}
+use Rattle.scan.specs.declared.Extent.the-variants.{Entries, Invalid}
+
+module _ (vertices longest prev : ℕ) (s : List ℕ) (i : ℕ) where
+  -- nothing rises from slot i on, which may be the end
+  pub scan-rest : getD s i 0 ≤ prev → scanFrom vertices longest prev i (drop i s) ≡ cond (zeros? (drop i s)) (Entries i) Invalid
+  unfolding scanFrom risingEntries?
+  scan-rest = checked-rest Entries Invalid (entry? vertices longest) prev s i
+
+  -- one more rises
+  pub scan-next : i < length s → prev < getD s i 0 → (b : Bool) → entry? vertices longest (getD s i 0) ≡ b
+      → scanFrom vertices longest prev i (drop i s) ≡ cond b (scanFrom vertices longest (getD s i 0) (i + 1) (drop (i + 1) s)) Invalid
+  unfolding scanFrom risingEntries?
+  scan-next = checked-next Entries Invalid (entry? vertices longest) prev s i
+
+module _ (vertices longest : ℕ) (s : List ℕ) where
+  pub scan-start : scanFrom vertices longest 0 0 s ≡ scanOf vertices longest s
+  unfolding scanFrom scanOf indexMemory?
+  scan-start = rw zero-add
+
+  -- ---- for callers
+
+  pub scans : {n : ℕ} → scanOf vertices longest s ≡ Entries n → (indexMemory? vertices longest s ≡ true) × (n ≡ length (standing s))
+  unfolding scanOf
+  scans {n} e = go (indexMemory? vertices longest s) e
+    where
+      go : (b : Bool) → cond b (Entries (length (standing s))) Invalid ≡ Entries n → (b ≡ true) × (n ≡ length (standing s))
+      go true e = (refl, cc)
+      go false e = absurd (let z : _≡_ {A = ℕ} 0 1 = cc in omega arith)
+
+  pub scans-none : scanOf vertices longest s ≡ Invalid → indexMemory? vertices longest s ≡ false
+  unfolding scanOf
+  scans-none e = go (indexMemory? vertices longest s) e
+    where
+      go : (b : Bool) → cond b (Entries (length (standing s))) Invalid ≡ Invalid → b ≡ false
+      go true e = absurd (let z : _≡_ {A = ℕ} 0 1 = cc in omega arith)
+      go false e = refl

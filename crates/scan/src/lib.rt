@@ -1,0 +1,235 @@
+// Index memory: check 12, in one pass that also finds how many entries stand.
+use model::CODE_DIGITS;
+use model::DIGIT_UNIT;
+use model::HUB_UNIT;
+use model::MOST_LABEL;
+use model::MOST_VERTICES;
+use model::OWNER_UNIT;
+use model::SIDE_UNIT;
+ghost use mathlib.Core.Path.{_≡_};
+ghost use mathlib.Core.Bool.{not};
+ghost use Prim.Native.Nat.{_≤_, _<_};
+ghost use lib.ListN.{length};
+ghost use Rattle.model.specs.Limits.{codeDigits, hubUnit};
+ghost use Rattle.model.specs.Edges.{zeros?};
+ghost use Rattle.model.specs.Patterns.{keyed?, own?};
+ghost use Rattle.model.specs.Query.{digits, code?};
+ghost use Rattle.scan.specs.Memory.{scanOf};
+ghost use Rattle.scan.specs.Codes.{slotOf, Detects, Repeats, Spelled, Repeatable};
+ghost use Rattle.scan.specs.Scan.{Seen, Examines, FieldEnd, Skims};
+
+// The numbers that an owner's field and a hub's field hold.
+const FIELD: u64 = MOST_VERTICES as u64;
+
+// What check 12 finds: how many entries stand, or that this is no index memory of the graph.
+pub enum Extent {
+    Entries(usize),
+    Invalid,
+}
+
+// A code as it is kept: CODE_DIGITS digits fit.
+type Kept = u16;
+
+// How many slots there are for codes that have passed. With this multiplier nearly all of the 4,600 codes of four digits have a slot of their own.
+const SLOTS: usize = 8192;
+
+const MULTIPLIER: u64 = 1040391;
+
+// The slot of a code: multiplicative hashing.
+fn slot(code: u64) -> usize
+    requires { ⌜ code < hubUnit ⌝ }
+    ensures { λ r. ⌜ r ≡ slotOf code ⌝ }
+{
+    (code * MULTIPLIER / SLOTS as u64 % SLOTS as u64) as usize
+}
+
+// Whether the digits of a code are 1 to `longest` labels.
+fn are_labels(longest: u32, code: u64) -> bool
+    requires { ⌜ code < hubUnit ⌝ }
+    ensures { λ r. ⌜ r ≡ keyed? longest (digits codeDigits code) ⌝ }
+{
+    let mut rest = code;
+    let mut length = 0;
+    let mut left = CODE_DIGITS;
+    while 0 < left {
+        // 1 if digits are left, else 0, without a branch: codes of all lengths are mixed
+        let some = (rest + (HUB_UNIT - 1)) / HUB_UNIT;
+        if MOST_LABEL as u64 <= (rest - some) % DIGIT_UNIT {
+            return false;
+        }
+        rest = rest / DIGIT_UNIT;
+        length += some;
+        left -= 1;
+    }
+    if length < 1 {
+        return false;
+    }
+    length <= longest as u64
+}
+
+// Whether the last d digits of a code, written twice or more, give it. They count up to `unit`.
+fn repeats_by(code: u64, d: usize, unit: u64) -> bool
+    requires { ⌜ Repeatable code d unit ⌝ }
+    ensures { λ r. ⌜ Detects (Repeats (digits codeDigits code) d) r ⌝ }
+{
+    let last = code % unit;
+    let mut word = last;
+    let mut length = d + d;
+    while length <= CODE_DIGITS {
+        word = word * unit + last;
+        if word == code {
+            return true;
+        }
+        length += d;
+    }
+    false
+}
+
+// Whether the digits of a code are fewer digits, written twice or more.
+fn repeats(code: u64) -> bool
+    requires { ⌜ Spelled code ⌝ }
+    ensures { λ r. ⌜ r ≡ not (own? (digits codeDigits code)) ⌝ }
+{
+    let mut d = 1;
+    let mut unit = DIGIT_UNIT;
+    while d + d <= CODE_DIGITS {
+        if repeats_by(code, d, unit) {
+            return true;
+        }
+        d += 1;
+        unit = unit * DIGIT_UNIT;
+    }
+    false
+}
+
+// Whether a code is that of a pattern of at most `longest` labels that is its own minimum repeat.
+pub fn is_code(longest: u32, code: u64) -> bool
+    requires { ⌜ code < hubUnit ⌝ }
+    ensures { λ r. ⌜ r ≡ code? longest code ⌝ }
+{
+    if are_labels(longest, code) {
+        return !repeats(code);
+    }
+    false
+}
+
+// Whether x is an entry of the graph. If it is, its code is kept in `seen`, which spares the next with that code the test.
+fn is_entry(vertices: u32, longest: u32, x: u64, seen: &mut [Kept; SLOTS]) -> bool
+    requires { ⌜ Seen longest (now seen) ⌝ }
+    ensures { λ r. ⌜ Examines vertices longest x (now (seen .exit)) r ⌝ }
+{
+    if 2 <= x / SIDE_UNIT {
+        return false;
+    }
+    if vertices as u64 <= x / OWNER_UNIT % FIELD {
+        return false;
+    }
+    if vertices as u64 <= x / HUB_UNIT % FIELD {
+        return false;
+    }
+    let code = x % HUB_UNIT;
+    if is_code(longest, code) {
+        let at = slot(code);
+        seen[at] = code as Kept;
+        return true;
+    }
+    false
+}
+
+// How many of the numbers that a field holds are vertices.
+fn field_end(vertices: u32) -> u64
+    ensures { λ r. ⌜ FieldEnd vertices r ⌝ }
+{
+    if vertices < MOST_VERTICES as u32 {
+        return vertices as u64;
+    }
+    FIELD
+}
+
+// Whether every slot is zero.
+fn all_zero(s: &[u64]) -> bool
+    ensures { λ r. ⌜ r ≡ zeros? (now (s .entry)) ⌝ }
+{
+    let mut i = 0;
+    while i < s.len() {
+        if s[i] != 0 {
+            return false;
+        }
+        i += 1;
+    }
+    true
+}
+
+// Why check 12 leaves its fast loop. As each way out leads elsewhere, the compiler keeps the tests apart, which is faster than one of all.
+enum Exit {
+    // from this slot on nothing rises
+    Rest(usize),
+    // side, owner or code of the entry in this slot is not known to be right
+    Untested(usize),
+    // a hub is none of the graph
+    Stray,
+}
+
+// Goes on over the entries that rise, are below `end`, are below `hubs` by hub and code, and have a code that was seen, as nearly all do.
+fn skim(index: &[u64], from: usize, prev: u64, end: u64, hubs: u64, seen: &[Kept; SLOTS]) -> Exit
+    requires { ⌜ from ≤ length (now index) ⌝ }
+    ensures { λ r. ⌜ Skims (now (index .entry)) from prev end hubs (now (seen .entry)) r ⌝ }
+{
+    let mut i = from;
+    let mut last = prev;
+    while i < index.len() {
+        let x = index[i];
+        if x <= last {
+            return Exit::Rest(i);
+        }
+        if end <= x {
+            return Exit::Untested(i);
+        }
+        if hubs <= x % OWNER_UNIT {
+            return Exit::Stray;
+        }
+        let code = x % HUB_UNIT;
+        let at = slot(code);
+        if seen[at] == code as Kept {
+            last = x;
+            i += 1;
+        } else {
+            return Exit::Untested(i);
+        }
+    }
+    Exit::Rest(i)
+}
+
+// Check 12, in one pass. From the last entry to `end`, side and owner are right.
+pub fn scan(vertices: u32, longest: u32, index: &[u64]) -> Extent
+    ensures { λ r. ⌜ r ≡ scanOf vertices longest (now (index .entry)) ⌝ }
+{
+    // no code is kept yet; as 0 is none, its slot, 0, holds another number
+    let mut seen: [Kept; SLOTS] = [0; SLOTS];
+    seen[0] = 1;
+    let n = field_end(vertices);
+    let mut i = 0;
+    let mut prev: u64 = 0;
+    let mut end: u64 = 0;
+    loop {
+        let exit = skim(index, i, prev, end, n * HUB_UNIT, &seen);
+        match exit {
+            Exit::Stray => return Extent::Invalid,
+            Exit::Rest(at) => {
+                if all_zero(&index[at..]) {
+                    return Extent::Entries(at);
+                }
+                return Extent::Invalid;
+            }
+            Exit::Untested(at) => {
+                prev = index[at];
+                if is_entry(vertices, longest, prev, &mut seen) {
+                    end = prev / SIDE_UNIT * SIDE_UNIT + n * OWNER_UNIT;
+                    i = at + 1;
+                } else {
+                    return Extent::Invalid;
+                }
+            }
+        }
+    }
+}
