@@ -29,7 +29,7 @@ pub extern "C" fn bench_build(
     index: &mut [u64],
     work: &mut [u64],
 ) -> u64
-    requires { ⌜ Buildable vertices longest (now edges) (now order) (now index) (now work) ⌝ }
+    requires { ⌜ Buildable vertices longest (now edges) (now order) (length (now index)) (now work) ⌝ }
     ensures { λ r. ⌜
         BuildsNumber (record { vertices = vertices; longest = longest; edges = now (edges .entry) })
         (now (order .entry)) (now (index .entry)) (now (work .entry)) (now (index .exit)) (now (work .exit)) r

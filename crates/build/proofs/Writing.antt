@@ -9,7 +9,7 @@ use Rattle.model.specs.Limits.{leastWork}
 use Rattle.model.specs.Renumber.{translate}
 use Rattle.sort.specs.Order.{Distinct, Narrow}
 use Rattle.output.specs.Output.{Translatable, Written}
-use Rattle.build.specs.Parts.{stagedList, Writable, Writes}
+use Rattle.build.specs.Parts.{stagedList, Writable, WritesOut}
 
 -- w with part in the place of its k numbers from a on
 abbrev pub put : ℕ → ℕ → List ℕ → List ℕ → List ℕ
@@ -65,7 +65,7 @@ module _ {order w index : List ℕ} {n : ℕ} (ok : Writable order w index n) (k
 
     pub writes : (last : List ℕ) {index′ : List ℕ} → length last ≡ length (take k (drop leastWork (put leastWork k w part)))
         → Written (take k (drop leastWork (put leastWork k w part))) index index′
-        → Writes order w index n (put leastWork k (put leastWork k w part) last) index′
+        → WritesOut order w index n (put leastWork k (put leastWork k w part) last) index′
     writes last kept out =
         let u-length : length (put leastWork k w part) ≡ length w = put-length leastWork k w part size room in
         let u-room : leastWork + k ≤ length (put leastWork k w part) = omega (arith, u-length, room) in
@@ -73,9 +73,9 @@ module _ {order w index : List ℕ} {n : ℕ} (ok : Writable order w index n) (k
         record {
           saved = record {
             len = put-length leastWork k (put leastWork k w part) last last-size u-room ∙ u-length;
-            same = λ i _ h.
-                put-before leastWork k (put leastWork k w part) last last-size u-room i (omega (arith, h))
-                ∙ put-before leastWork k w part size room i (omega (arith, h));
+            same = λ i x.
+                put-before leastWork k (put leastWork k w part) last last-size u-room i (omega (arith, x .most))
+                ∙ put-before leastWork k w part size room i (omega (arith, x .most));
           };
           written = rw cut-part at out;
         }

@@ -1,29 +1,23 @@
 -- The two parts of building: the entries staged with ranks for vertices, and the stage written out.
 use mathlib.Core.List.{List, map}
-use Prim.Native.Nat.{ℕ, _+_, _≤_, _<_}
+use Prim.Native.Nat.{ℕ, _+_, _≤_}
 use lib.ListN.{length, take, drop}
 use Rattle.model.specs.Lists.{upTo}
-use Rattle.model.specs.Limits.{mostLongest, leastWork}
+use Rattle.model.specs.Limits.{leastWork}
 use Rattle.model.specs.Entries.{IsEntry}
 use Rattle.model.specs.Renumber.{Renumbers, translate}
-use Rattle.renumber.specs.Ranked.{Ordered}
 use Rattle.sort.specs.Order.{Distinct, Narrow}
 use Rattle.output.specs.Output.{Translatable, Written}
-use Rattle.staging.specs.Stage.{Outcome}
+use Rattle.rows.specs.Region.{savedRows, rootRow}
+use Rattle.rows.specs.Rows.{Within}
+use Rattle.staging.specs.Stage.{Stages}
 use Rattle.build.specs.Build.{Saved}
 
-pub record Stageable (vertices longest : ℕ) (edges order w : List ℕ) (room : ℕ) : Type 0 where
-  pub ordered : Ordered vertices edges order
-  pub longest-least : 1 ≤ longest
-  pub longest-most : longest ≤ mostLongest
-  pub there : leastWork + room ≤ length w
-
 -- the entries of the renumbered graph, whose vertices are in their own order, are staged; there are r of them, or more than fit
-pub record Stages (vertices longest : ℕ) (edges order w : List ℕ) (room : ℕ) (w′ : List ℕ) (r : ℕ) : Type 0 where
+pub record GraphStages (vertices longest : ℕ) (edges order w : List ℕ) (room : ℕ) (w′ : List ℕ) (r : ℕ) : Type 0 where
   pub edges′ : List ℕ
   pub renumbers : Renumbers vertices (take vertices order) edges edges′
-  pub saved : Saved w w′
-  pub outcome : Outcome w 0 w′ r room (IsEntry (record { vertices = vertices; longest = longest; edges = edges′ }) (upTo vertices))
+  pub stages : Stages w (Within savedRows rootRow) (IsEntry (record { vertices = vertices; longest = longest; edges = edges′ }) (upTo vertices)) room 0 w′ r
 
 -- the first r numbers staged, as a list
 abbrev pub stagedList : List ℕ → ℕ → List ℕ
@@ -36,6 +30,6 @@ pub record Writable (order w index : List ℕ) (n : ℕ) : Type 0 where
   pub distinct : Distinct (map (translate order) (stagedList w n))
   pub narrow : Narrow (map (translate order) (stagedList w n))
 
-pub record Writes (order w index : List ℕ) (n : ℕ) (w′ index′ : List ℕ) : Type 0 where
+pub record WritesOut (order w index : List ℕ) (n : ℕ) (w′ index′ : List ℕ) : Type 0 where
   pub saved : Saved w w′
   pub written : Written (map (translate order) (stagedList w n)) index index′

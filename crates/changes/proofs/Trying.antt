@@ -11,7 +11,7 @@ use Rattle.model.specs.Limits.{mostEdges, leastWork}
 use Rattle.model.specs.Edges.{edge?}
 use Rattle.model.specs.declared.Answer.{Answer}
 use Rattle.model.proofs.Memory.{length-filled}
-use Rattle.rows.specs.Room.{savedNumbers}
+use Rattle.rows.specs.Region.{savedNumbers}
 use Rattle.calls.specs.Change.{Header, Memory, Handed, none, Leaves, settle}
 use Rattle.calls.proofs.Checks.{Header as Bounds}
 use Rattle.calls.proofs.Change.{settle-same}
@@ -51,9 +51,8 @@ module _ {h : Header} {wanted : List ℕ} {m : Memory} {n : ℕ} {edges work : L
   pub settleable : Settleable h n edges (m .index) work
   settleable =
       record {
-        vertices-most = w .header .vertices-most;
-        longest-least = w .header .longest-least;
-        longest-most = w .header .longest-most;
+        bounds = let b = w .header in
+            record { vertices-least = b .vertices-least; vertices-most = b .vertices-most; longest-least = b .longest-least; longest-most = b .longest-most };
         few = omega (arith, long, w .few);
         fits = omega (arith, long, w .count, w .fits);
         zeros = rw (long, front) (t .edges-are);

@@ -17,7 +17,14 @@ pub record Graph : Type 0 where
 abbrev pub bare : ℕ → List ℕ → Graph
 bare vertices edges = record { vertices = vertices; longest = 0; edges = edges }
 
--- what checks 1 and 2 leave
+-- what checks 1 and 2 let pass: "places 1 to 256", "k 1 to 4"
+pub record Bounds (vertices longest : ℕ) : Type 0 where
+  pub vertices-least : 1 ≤ vertices
+  pub vertices-most : vertices ≤ mostVertices
+  pub longest-least : 1 ≤ longest
+  pub longest-most : longest ≤ mostLongest
+
+-- what they leave of a graph
 pub record Small (g : Graph) : Type 0 where
   pub vertices-small : g .vertices ≤ mostVertices
   pub longest-small : g .longest ≤ mostLongest

@@ -1,38 +1,39 @@
--- Staging the entries of one pattern, on both sides.
-use mathlib.Core.Path.{_≡_}
+-- Staging the entries of one pattern: a label, and the parent's word behind it.
 use mathlib.Core.List.{List}
-use mathlib.Core.Logic.{_⊎_}
-use Prim.Native.Nat.{ℕ, _+_, _/_, _≤_, _<_}
-use lib.ListN.{length, getD}
-use Rattle.model.specs.Limits.{mostVertices, leastWork, hubUnit}
-use Rattle.model.specs.Hubs.{Picked}
-use Rattle.rows.specs.Rows.{Step}
-use Rattle.rows.specs.Room.{openRow}
+use Prim.Native.Nat.{ℕ, _+_, _≤_, _<_}
+use lib.ListN.{length}
+use Rattle.model.specs.Limits.{mostVertices, mostLabel, leastWork, hubUnit}
+use Rattle.model.specs.Hubs.{EntryBy}
+use Rattle.rows.specs.Region.{stepRows, parentRows, childRows, openRow}
+use Rattle.rows.specs.Rows.{On, Within, Empty}
+use Rattle.steps.specs.Steps.{Slotted}
+use Rattle.steps.specs.Filling.{Via}
 use Rattle.closure.specs.Closing.{Plus}
-use Rattle.staging.specs.Stage.{Outcome, Hubbed, Outward}
-use Rattle.relation.specs.Relation.{Led, Fillable}
+use Rattle.staging.specs.Stage.{Stages}
 
--- the numbers below 4,096 are kept, but for the step rows and the rows from `open` on
-pub record Spared (w w′ : List ℕ) : Type 0 where
-  pub len : length w′ ≡ length w
-  pub same : (k : ℕ) → k < leastWork → mostVertices ≤ k / 4 → k / 4 < openRow → getD w′ k 0 ≡ getD w k 0
+-- the label and the parent's word lead from a to b
+pub record Led (edges w : List ℕ) (label a b : ℕ) : Type 0 where
+  pub from : a < mostVertices
+  pub to : b < mostVertices
+  pub via : Via edges w parentRows a label b
 
--- the entries of both sides, by the step rows
-abbrev pub Sided : List ℕ → ℕ → ℕ → Type 0
-Sided w code e = Outward w code e ⊎ Hubbed w 1 code e
-
--- the entries of both sides, by the relation of the label and the parent's word
-pub data Either (edges w : List ℕ) (label code e : ℕ) : Type 0 where
-  out : Picked (λ u y. Plus (Led edges w label) y u) 0 code e → Either edges w label code e
-  into : Picked (Plus (Led edges w label)) 1 code e → Either edges w label code e
-
-pub record Patternable (edges slots w : List ℕ) (label starts code room cnt : ℕ) : Type 0 where
-  pub fillable : Fillable edges slots w label starts
+-- the step rows are empty, row `starts` has every vertex from which the label and the word lead anywhere, and there is room for the slots
+pub record PatternStageable (edges slots w : List ℕ) (label starts code room cnt : ℕ) : Type 0 where
+  pub slotted : Slotted edges slots
+  pub label-most : label ≤ mostLabel
+  pub least : childRows ≤ starts
+  pub most : starts < openRow
+  pub quiet : Empty w stepRows mostVertices
+  pub sources : (a b : ℕ) → Led edges w label a b → On w starts a
   pub code-small : code < hubUnit
   pub count : cnt ≤ room
-  pub room-there : leastWork + room ≤ length w
+  pub there : leastWork + room ≤ length w
 
-pub record Patterned (edges w : List ℕ) (label code room cnt : ℕ) (w′ : List ℕ) (r : ℕ) : Type 0 where
-  pub spared : Spared w w′
-  pub quiet : (a b : ℕ) → Step w′ a b → ⊥
-  pub outcome : Outcome w cnt w′ r room (Either edges w label code)
+-- the entries of P are staged: the parent's rows and those behind are kept, and the step rows end empty
+pub record PatternStages (w : List ℕ) (P : ℕ → Type 0) (room cnt : ℕ) (w′ : List ℕ) (r : ℕ) : Type 0 where
+  pub stages : Stages w (Within parentRows openRow) P room cnt w′ r
+  pub quiet : Empty w′ stepRows mostVertices
+
+-- the entries by where the label and the word lead, once or more
+abbrev pub LedEntry : List ℕ → List ℕ → ℕ → ℕ → ℕ → Type 0
+LedEntry edges w label code = EntryBy (Plus (Led edges w label)) code

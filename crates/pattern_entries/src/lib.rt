@@ -1,21 +1,26 @@
-// The entries of one pattern: its step rows filled, closed, staged from on both sides, and emptied.
-ghost use Rattle.staging.specs.Stage.{Stageable, Transits, Stages};
-ghost use Rattle.hubs.specs.Pattern.{Sided, Patternable, Patterned};
+// The entries of one pattern: its step rows filled, closed, staged from, and emptied.
+use model::MOST_VERTICES;
+ghost use Rattle.model.specs.Limits.{mostVertices};
+ghost use Rattle.rows.specs.Region.{stepRows};
+ghost use Rattle.rows.specs.Rows.{Domain};
+ghost use Rattle.steps.specs.Filling.{Clears};
+ghost use Rattle.pattern_entries.specs.Pattern.{PatternStageable, PatternStages, LedEntry};
 
-// Stages the out entries and then the in entries of the closed step rows, behind the first cnt. Returns how many are staged then, or slots + 1.
-fn stage_sides(w: &mut [u64], domain: usize, code: u64, slots: usize, cnt: usize) -> usize
-    requires { ⌜ Stageable (now w) domain 0 code slots cnt × Transits (now w) ⌝ }
-    ensures { λ r. ⌜ Stages (now (w .entry)) (Sided (now (w .entry)) code) slots cnt (now (w .exit)) r ⌝ }
+// Empties the step rows of the vertices in row `domain`, which are all that step anywhere.
+fn clear_steps(w: &mut [u64], domain: usize)
+    requires { ⌜ Domain (now w) domain ⌝ }
+    ensures { λ _. ⌜ Clears (now (w .entry)) (now (w .exit)) stepRows mostVertices ⌝ }
 {
-    let outs = staging::stage_out(w, domain, code, slots, cnt);
-    if slots < outs {
-        return outs;
+    let mut a = rows::next(w, domain, 0);
+    while a < MOST_VERTICES {
+        rows::clear(w, a);
+        a = rows::next(w, domain, a + 1);
     }
-    staging::stage(w, domain, 1, code, slots, outs)
 }
 
-// Stages the entries of the pattern that is the label and the parent's word, behind the first cnt. Returns how many are staged then, or room + 1.
-pub fn stage_pattern(
+// Stages the entries of the pattern that is the label and the parent's word, behind the first cnt. Returns how many are staged then, or
+// room + 1 if there are more than room.
+pub fn stage(
     edges: &[u32],
     slots: &[usize],
     label: u32,
@@ -25,12 +30,12 @@ pub fn stage_pattern(
     room: usize,
     cnt: usize,
 ) -> usize
-    requires { ⌜ Patternable (now edges) (now slots) (now w) label starts code room cnt ⌝ }
-    ensures { λ r. ⌜ Patterned (now (edges .entry)) (now (w .entry)) label code room cnt (now (w .exit)) r ⌝ }
+    requires { ⌜ PatternStageable (now edges) (now slots) (now w) label starts code room cnt ⌝ }
+    ensures { λ r. ⌜ PatternStages (now (w .entry)) (LedEntry (now (edges .entry)) (now (w .entry)) label code) room cnt (now (w .exit)) r ⌝ }
 {
-    relation::fill_forth(edges, slots, label, w, starts);
+    steps::fill(edges, slots, label, w, rows::PARENT, rows::STEPS, starts);
     closure::close(w, starts);
-    let staged = stage_sides(w, starts, code, room, cnt);
-    clearing::wipe(w, starts);
+    let staged = staging::stage(w, starts, code, room, cnt);
+    clear_steps(w, starts);
     staged
 }

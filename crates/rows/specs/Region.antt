@@ -1,37 +1,44 @@
--- The rooms of work memory below 4,096, as rows (row r is the numbers 4r to 4r + 3). Rows 512 to 767 are the 1,024 numbers in which edge
--- memory is saved while a change is tried.
-use Prim.Native.Nat.{ℕ}
+-- The regions of work memory below its least length, as rows.
+use Prim.Native.Nat.{ℕ, _+_, _*_, _/_}
+use Rattle.model.specs.Limits.{mostVertices, mostEdges, mostLabel, mostLongest, leastWork}
 
--- row a: the vertices that vertex a steps to, for the pattern at hand (rows 0 to 255); before that, every other ending of the word on the way
--- to the parent's rows
+-- the numbers of a row, one bit for each vertex, and the rows of work memory
+abbrev pub rowNumbers : ℕ
+rowNumbers = mostVertices / 64
+
+abbrev pub workRows : ℕ
+workRows = leastWork / rowNumbers
+
+-- row a of the step rows: the vertices that vertex a steps to, for the pattern at hand; before that, every other ending of the word on the
+-- way to the parent's rows
 abbrev pub stepRows : ℕ
 stepRows = 0
 
--- row 256 + a: the vertices to which edges lead from a by the pattern's labels after the first
+-- row a of the parent's rows: the vertices to which edges lead from a by the pattern's labels after the first
 abbrev pub parentRows : ℕ
-parentRows = 256
+parentRows = stepRows + mostVertices
 
--- the first of the numbers that edge memory is saved in
+-- the rows of the numbers that edge memory is saved in while a change is tried, and the first of these numbers
+abbrev pub savedRows : ℕ
+savedRows = parentRows + mostVertices
+
 abbrev pub savedNumbers : ℕ
-savedNumbers = 2048
-
--- eight rows for each number of labels chosen so far: the vertices from which some walk spells one label more
-abbrev pub childRows : ℕ
-childRows = 768
+savedNumbers = savedRows * rowNumbers
 
 -- all vertices
 abbrev pub rootRow : ℕ
-rootRow = 816
+rootRow = savedRows + mostEdges / rowNumbers
+
+-- a row for each label and each number of labels chosen so far: the vertices from which some walk spells one label more
+abbrev pub childRows : ℕ
+childRows = rootRow + 1
 
 -- single rows, each named by what uses it
 abbrev pub openRow : ℕ
-openRow = 824
+openRow = childRows + mostLongest * mostLabel
 
 abbrev pub todoRow : ℕ
-todoRow = 825
+todoRow = openRow + 1
 
 abbrev pub pickedRow : ℕ
-pickedRow = 826
-
-abbrev pub gatheredRow : ℕ
-gatheredRow = 827
+pickedRow = todoRow + 1

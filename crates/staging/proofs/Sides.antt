@@ -1,66 +1,70 @@
--- The entries of one side, staged hub by hub.
+-- The in entries hub by hub, the out entries owner by owner, and both sides one after the other.
 use mathlib.Core.Path.{_≡_, ap, _∙_}
 use mathlib.Core.List.{List}
-use Prim.Native.Nat.{ℕ, _+_, _/_, _%_, _≤_, _<_}
+use mathlib.Core.Logic.{_⊎_, inl, inr, ⊎-elim, _↔_, Iff·symm}
+use Prim.Native.Nat.{ℕ, _+_, _≤_, _<_}
 use native.Mathlib.Omega.{arith}
-use Rattle.model.specs.Limits.{mostVertices, hubUnit}
-use Rattle.model.specs.Entries.{entryOf}
-use Rattle.rows.specs.Rows.{Next}
-use Rattle.staging.specs.Stage.{Hubbed, Stageable, Stages}
-use Rattle.staging.specs.Hub.{Owned, Picks, Emits, Emitted}
-use Rattle.staging.proofs.Adding.{outcome-since}
-use Rattle.staging.proofs.Picking.{Alike, alike-back, owned-as}
-use Rattle.staging.proofs.Passing.{Through, Placed, kept-alike, through-over, through-more}
+use Rattle.model.specs.Query.{ownerOf, hubOf}
+use Rattle.model.specs.Hubs.{Picked, EntryBy}
+use Rattle.model.proofs.Hubs.{picked-as}
+use Rattle.model.proofs.Renumber.{entry-fields}
+use Rattle.rows.specs.Rows.{Keeps, Step}
+use Rattle.rows.proofs.Rows.{keeps-domain}
+use Rattle.staging.specs.Stage.{Stages, Unpicked, Stageable}
+use Rattle.staging.proofs.Adding.{stages-as, stages-over, stages-then}
+use Rattle.staging.proofs.Picking.{unpicked-steps, transits-as}
+use Rattle.staging.proofs.Passing.{Placed}
 
--- the hub stands in the entry
-abbrev pub hubOf : ℕ → ℕ
-hubOf e = e / 65536 % 256
+-- what is picked by the steps of a memory whose step rows are kept
+pub ins-same : {w w′ : List ℕ} {code : ℕ} → Keeps w w′ Unpicked → (e : ℕ) → Picked (Step w′) 1 code e ↔ Picked (Step w) 1 code e
+ins-same h e = let f = unpicked-steps h in (picked-as (λ a b. Iff·symm (f a b)), picked-as f)
 
-entry-hub : (side owner hub code : ℕ) → hub < mostVertices → code < hubUnit → hubOf (entryOf side owner hub code) ≡ hub
-entry-hub side owner hub code h l = omega arith
+pub outs-same : {w w′ : List ℕ} {code : ℕ} → Keeps w w′ Unpicked → (e : ℕ) → Picked (λ u y. Step w′ y u) 0 code e ↔ Picked (λ u y. Step w y u) 0 code e
+outs-same h e = let f = unpicked-steps h in (picked-as (λ a b. Iff·symm (f b a)), picked-as (λ a b. f b a))
 
-module _ {w : List ℕ} {domain side code slots cnt : ℕ} (p : Stageable w domain side code slots cnt) where
-  hub-is : (e : ℕ) (x : Hubbed w side code e) → hubOf e ≡ x .hub
-  hub-is e x = ap hubOf (x .is) ∙ entry-hub side (x .owner) (x .hub) code (x .step .from) (p .code-small)
+module _ {w : List ℕ} {d code slots cnt : ℕ} (p : Stageable w d code slots cnt) where
+  -- the hub, or the owner, stands in the entry
+  pub hubs-placed : Placed w d (Picked (Step w) 1 code) hubOf
+  hubs-placed = record { small = λ e x. omega (arith, hub-is e x, x .related .from); starts = λ e x. rw (hub-is e x) (p .domain .starts _ _ (x .related)) }
+    where
+      hub-is : (e : ℕ) (x : Picked (Step w) 1 code e) → hubOf e ≡ x .hub
+      hub-is e x = let (_, _, q, _) = entry-fields 1 (x .owner) (x .hub) code (x .related .to) (x .related .from) (p .code-small) in ap hubOf (x .is) ∙ q
 
-  pub hubs-placed : Placed w domain (Hubbed w side code) hubOf
-  hubs-placed =
-      record {
-        small = λ e x. omega (arith, hub-is e x, x .step .from);
-        starts = λ e x. rw (hub-is e x) (p .starts _ _ (x .step));
-      }
+  pub owners-placed : Placed w d (Picked (λ u y. Step w y u) 0 code) ownerOf
+  owners-placed =
+      record { small = λ e x. omega (arith, owner-is e x, x .related .from); starts = λ e x. rw (owner-is e x) (p .domain .starts _ _ (x .related)) }
+    where
+      owner-is : (e : ℕ) (x : Picked (λ u y. Step w y u) 0 code e) → ownerOf e ≡ x .owner
+      owner-is e x = let (_, q, _, _) = entry-fields 0 (x .owner) (x .hub) code (x .related .from) (x .related .to) (p .code-small) in ap ownerOf (x .is) ∙ q
 
-  -- the entries of hub u
-  module _ {w₁ w₂ w₃ : List ℕ} {k k′ u : ℕ} (a : Through w (Hubbed w side code) hubOf slots cnt w₁ k u) (h : u < mostVertices) (b : Picks w₁ u w₂)
-      (c : Emitted w₂ u side code slots k w₃ k′) where
-    hub-stages : Stages w₁ (Emits w₂ u side code mostVertices) slots k w₃ k′
-    hub-stages = record { kept = λ i l n. c .kept i l ∙ b .others i n; outcome = outcome-since (c .outcome) (b .len) (λ i l. b .others i (λ e. omega arith)) }
+  -- ---- both sides
 
-    steps : Alike w w₁
-    steps = kept-alike w w₁ (a .kept)
+  module _ {w₁ : List ℕ} {r : ℕ} (s : Stages w Unpicked (Picked (λ u y. Step w y u) 0 code) slots cnt w₁ r) where
+    pub sides-over : slots < r → Stages w Unpicked (EntryBy (Step w) code) slots cnt w₁ r
+    sides-over h = stages-over s h (λ e. EntryBy.out)
 
-    hub-only : (e : ℕ) → Emits w₂ u side code mostVertices e → Hubbed w side code e
-    hub-only e m =
-        let o = owned-as (alike-back steps) (b .only (m .owner) (omega (arith, m .least)) (m .most) (m .on)) in
-        record { hub = u; owner = m .owner; step = o .step; late = m .least; alone = λ v l s t. o .alone v l l s t; is = m .is }
+    module _ (fits : r ≤ slots) where
+      pub sides-stageable : Stageable w₁ d code slots r
+      sides-stageable =
+          record {
+            domain = keeps-domain (s .keeps) (omega (arith, p .domain .most), λ e. omega (arith, p .domain .most)) (λ a b t. p .domain .starts a b (same a b .1 t)) (p .domain);
+            transits = transits-as same (p .transits);
+            code-small = p .code-small;
+            count = fits;
+            room = omega (arith, p .room, s .keeps .len);
+          }
+        where
+          same : (a b : ℕ) → Step w a b ↔ Step w₁ a b
+          same = unpicked-steps (s .keeps)
 
-    hub-here : (e : ℕ) → Emits w₂ u side code mostVertices e → hubOf e ≡ u
-    hub-here e m = ap hubOf (m .is) ∙ entry-hub side (m .owner) u code h (p .code-small)
+      pub sides-all : {w₂ : List ℕ} {r′ : ℕ} → Stages w₁ Unpicked (Picked (Step w₁) 1 code) slots r w₂ r′
+          → Stages w Unpicked (EntryBy (Step w) code) slots cnt w₂ r′
+      sides-all t = stages-as (stages-then s fits apart (stages-as t (ins-same (s .keeps)))) (λ e. (⊎-elim EntryBy.out EntryBy.into, parts e))
+        where
+          apart : (e : ℕ) → Picked (λ u y. Step w y u) 0 code e → Picked (Step w) 1 code e → ⊥
+          apart e x y =
+              omega (arith, x .is, y .is, x .related .from, x .related .to, y .related .from, y .related .to, p .code-small)
 
-    hub-all : (e : ℕ) → Hubbed w side code e → hubOf e ≡ u → Emits w₂ u side code mostVertices e
-    hub-all e x i =
-        let q : x .hub ≡ u = omega (arith, hub-is e x) in
-        let o : Owned w (x .hub) (x .hub) (x .owner) = record { step = x .step; alone = λ v l _ s t. x .alone v l s t } in
-        record {
-          owner = x .owner;
-          least = rw q at (x .late);
-          most = x .step .to;
-          on = b .all (x .owner) (omega (arith, x .late)) (owned-as steps (rw q at o));
-          is = rw q at (x .is);
-        }
-
-    pub hubs-over : slots < k′ → Stages w (Hubbed w side code) slots cnt w₃ k′
-    hubs-over = through-over p hubs-placed a hub-stages hub-only hub-here hub-all
-
-    pub hubs-more : k′ ≤ slots → {q : ℕ} → Next w₃ domain (u + 1) q → Through w (Hubbed w side code) hubOf slots cnt w₃ k′ q
-    hubs-more = through-more p hubs-placed a hub-stages hub-only hub-here hub-all
+          parts : (e : ℕ) → EntryBy (Step w) code e → Picked (λ u y. Step w y u) 0 code e ⊎ Picked (Step w) 1 code e
+          parts e (EntryBy.out x) = inl x
+          parts e (EntryBy.into x) = inr x

@@ -1,6 +1,6 @@
-pub mod Picks
-pub mod Children
 pub mod Own
-pub mod Leafing
+pub mod Entries
+pub mod Children
 pub mod Levelling
+pub mod Leafing
 pub mod Noding

@@ -1,4 +1,4 @@
--- A pattern is its own minimum repeat where that is as long as the pattern.
+-- A pattern is its own minimum repeat if that is as long as the pattern.
 use mathlib.Core.Path.{_≡_, ap, sym, _∙_}
 use mathlib.Core.List.{List}
 use Prim.Native.Nat.{ℕ}

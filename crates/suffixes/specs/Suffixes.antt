@@ -1,32 +1,29 @@
--- Staging the entries of all patterns, from their endings on.
+-- Staging the entries of all patterns, by their suffixes.
 use mathlib.Core.Path.{_≡_}
 use mathlib.Core.List.{List, _∷_}
-use mathlib.Core.Logic.{_⊎_}
-use Prim.Native.Nat.{ℕ, suc, _+_, _-_, _*_, _/_, _≤_, _<_}
-use lib.ListN.{length, getD, drop}
+use Prim.Native.Nat.{ℕ, suc, _+_, _-_, _*_, _≤_, _<_}
+use lib.ListN.{length, drop}
 use Rattle.model.specs.Lists.{_∈_}
 use Rattle.model.specs.Limits.{mostVertices, mostLabel, mostLongest, leastWork}
 use Rattle.model.specs.Patterns.{code}
-use Rattle.model.specs.Hubs.{Picked}
-use Rattle.model.specs.Suffixes.{Beyond, Leaf, Some}
-use Rattle.rows.specs.Rows.{On, Step}
-use Rattle.rows.specs.Room.{parentRows, childRows, rootRow, openRow}
-use Rattle.steps.specs.Steps.{Ready, Trail, Sources}
+use Rattle.model.specs.Hubs.{EntryBy}
+use Rattle.rows.specs.Region.{stepRows, savedRows, rootRow, childRows}
+use Rattle.rows.specs.Rows.{On, Within, Empty}
+use Rattle.steps.specs.Steps.{Slotted, Trail, Sources, Parent}
 use Rattle.closure.specs.Closing.{Plus}
-use Rattle.staging.specs.Stage.{Outcome}
-use Rattle.hubs.specs.Pattern.{Spared}
+use Rattle.staging.specs.Stage.{Stages}
 
 -- the labels lead from vertex a to vertex b
-pub record Leads (edges l : List ℕ) (a b : ℕ) : Type 0 where
+pub record Spans (edges l : List ℕ) (a b : ℕ) : Type 0 where
   pub from : a < mostVertices
   pub to : b < mostVertices
   pub trail : Trail edges a l b
 
--- the entries with pattern l, by where it leads: out entries and in entries
-abbrev pub Picks : List ℕ → List ℕ → ℕ → Type 0
-Picks edges l e = Picked (λ u y. Plus (Leads edges l) y u) 0 (code l) e ⊎ Picked (Plus (Leads edges l)) 1 (code l) e
+-- e is an entry with pattern l, by where its labels lead, once or more
+abbrev pub PatternEntry : List ℕ → List ℕ → ℕ → Type 0
+PatternEntry edges l e = EntryBy (Plus (Spans edges l)) (code l) e
 
--- the labels chosen so far are the last d of four digits
+-- the labels chosen so far are the last d digits
 abbrev pub wordOf : List ℕ → ℕ → List ℕ
 wordOf digits d = drop (mostLongest - d) digits
 
@@ -37,85 +34,43 @@ pub record Chosen (digits : List ℕ) (d longest : ℕ) : Type 0 where
   pub most : longest ≤ mostLongest
   pub labels : (c : ℕ) → c ∈ wordOf digits d → (1 ≤ c) × (c ≤ mostLabel)
 
--- the first of the eight rows for one label more
+-- the first of the rows for one label more
 abbrev pub baseOf : ℕ → ℕ
-baseOf d = childRows + 8 * d
+baseOf d = childRows + mostLabel * d
 
--- row `starts` lies before those eight rows, or is the root
-pub record Before (d starts : ℕ) : Type 0 where
-  pub lies : (starts < baseOf d) ⊎ (starts ≡ rootRow)
-
--- it has every vertex from which the word can be spelled
-pub record Sourced (edges l w : List ℕ) (starts : ℕ) : Type 0 where
-  pub least : childRows ≤ starts
-  pub most : starts < openRow
-  pub all : (a t : ℕ) → a < mostVertices → Trail edges a l t → On w starts a
-
--- there is room for the slots
-pub record Stocked (w : List ℕ) (room cnt : ℕ) : Type 0 where
+-- row `starts`, before those rows, has every vertex from which the word can be spelled, and there is room for the slots
+pub record NodeStageable (edges slots digits w : List ℕ) (d starts longest room cnt : ℕ) : Type 0 where
+  pub slotted : Slotted edges slots
+  pub chosen : Chosen digits d longest
+  pub sources : Sources edges (wordOf digits d) w
+  pub least : rootRow ≤ starts
+  pub before : starts < baseOf d
+  pub spelled : (a t : ℕ) → a < mostVertices → Trail edges a (wordOf digits d) t → On w starts a
   pub count : cnt ≤ room
   pub there : leastWork + room ≤ length w
 
-pub record Node (edges slots digits w : List ℕ) (d starts longest room cnt : ℕ) : Type 0 where
-  pub ready : Ready edges slots
-  pub chosen : Chosen digits d longest
-  pub sources : Sources edges (wordOf digits d) w
-  pub sourced : Sourced edges (wordOf digits d) w starts
-  pub before : Before d starts
-  pub quiet : (a b : ℕ) → Step w a b → ⊥
-  pub stocked : Stocked w room cnt
-
--- the rows of saved edge memory, of fewer labels and of the root are kept
-pub record Held (w w′ : List ℕ) (d : ℕ) : Type 0 where
-  pub len : length w′ ≡ length w
-  pub lower : (k : ℕ) → k < leastWork → 512 ≤ k / 4 → k / 4 < baseOf d → getD w′ k 0 ≡ getD w k 0
-  pub root : (k : ℕ) → k / 4 ≡ rootRow → getD w′ k 0 ≡ getD w k 0
-
--- the entries whose patterns end in the word with one label more at least are staged behind the first cnt
-pub record Noded (edges digits w : List ℕ) (d longest room cnt : ℕ) (w′ : List ℕ) (r : ℕ) : Type 0 where
-  pub held : Held w w′ d
-  pub quiet : (a b : ℕ) → Step w′ a b → ⊥
-  pub outcome : Outcome w cnt w′ r room (Beyond longest (Picks edges) (wordOf digits d))
-
 -- ---- on the way
 
--- row 256 + a is where the word leads from a
-pub record Parent (edges l w : List ℕ) : Type 0 where
-  pub only : (a b : ℕ) → a < mostVertices → b < mostVertices → On w (parentRows + a) b → Trail edges a l b
-  pub all : (a b : ℕ) → a < mostVertices → b < mostVertices → Trail edges a l b → On w (parentRows + a) b
-
--- the eight rows from `base` on have every vertex from which a label 1 to 8 and then the word can be spelled
+-- the rows from `base` on, one for each label, have every vertex from which the label and then the word can be spelled
 pub record Children (edges l w : List ℕ) (base : ℕ) : Type 0 where
-  pub all : (c a t : ℕ) → c < 8 → a < mostVertices → Trail edges a (suc c ∷ l) t → On w (base + c) a
+  pub all : (c a t : ℕ) → c < mostLabel → a < mostVertices → Trail edges a (suc c ∷ l) t → On w (base + c) a
 
 -- one label more: the digits with label suc c before the word
 pub record Child (digits : List ℕ) (d c : ℕ) (digits′ : List ℕ) : Type 0 where
   pub size : length digits′ ≡ mostLongest
   pub word : wordOf digits′ (suc d) ≡ suc c ∷ wordOf digits d
 
--- the parent's rows and the children's are filled
-pub record Level (edges slots digits w : List ℕ) (d longest room cnt : ℕ) : Type 0 where
-  pub ready : Ready edges slots
+-- the parent's rows and the children's are filled, and the step rows empty
+pub record LeafStageable (edges slots digits w : List ℕ) (d longest room cnt : ℕ) : Type 0 where
+  pub slotted : Slotted edges slots
   pub chosen : Chosen digits d longest
   pub parent : Parent edges (wordOf digits d) w
   pub children : Children edges (wordOf digits d) w (baseOf d)
-  pub quiet : (a b : ℕ) → Step w a b → ⊥
-  pub stocked : Stocked w room cnt
+  pub quiet : Empty w stepRows mostVertices
+  pub count : cnt ≤ room
+  pub there : leastWork + room ≤ length w
 
--- the entries with one label before the word are staged: with label suc c, and with each of the first n
-pub record Leafed (edges digits w : List ℕ) (d longest room cnt c : ℕ) (w′ : List ℕ) (r : ℕ) : Type 0 where
-  pub spared : Spared w w′
-  pub quiet : (a b : ℕ) → Step w′ a b → ⊥
-  pub outcome : Outcome w cnt w′ r room (Leaf longest (Picks edges) (wordOf digits d) c)
-
-pub record Leaved (edges digits w : List ℕ) (d longest room cnt n : ℕ) (w′ : List ℕ) (r : ℕ) : Type 0 where
-  pub spared : Spared w w′
-  pub quiet : (a b : ℕ) → Step w′ a b → ⊥
-  pub outcome : Outcome w cnt w′ r room (Some n (Leaf longest (Picks edges) (wordOf digits d)))
-
--- the rows are filled and the entries with one label before the word staged
-pub record Levelled (edges digits w : List ℕ) (d longest room cnt : ℕ) (w′ : List ℕ) (r : ℕ) : Type 0 where
-  pub held : Held w w′ d
+-- the entries of P are staged, and the children's rows are filled: those of fewer labels are kept
+pub record LevelStages (edges digits w : List ℕ) (d : ℕ) (P : ℕ → Type 0) (room cnt : ℕ) (w′ : List ℕ) (r : ℕ) : Type 0 where
+  pub stages : Stages w (Within savedRows (baseOf d)) P room cnt w′ r
   pub children : Children edges (wordOf digits d) w′ (baseOf d)
-  pub quiet : (a b : ℕ) → Step w′ a b → ⊥
-  pub outcome : Outcome w cnt w′ r room (Some 8 (Leaf longest (Picks edges) (wordOf digits d)))

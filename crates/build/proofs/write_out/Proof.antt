@@ -3,12 +3,13 @@ use mathlib.Core.Path.{_≡_}
 use Prim.Native.Nat.{ℕ, _+_, _-_}
 use native.Mathlib.Omega.{arith}
 use borrow.Author.Needs.{needs}
+use Rattle.model.specs.Limits.{leastWork}
 use Rattle.build.proofs.Writing.{lent-translatable, cut-fits, cut-distinct, cut-narrow, writes}
 use Rattle.build.proofs.write_out.Statement.{statement}
 use Rattle.build.proofs.write_out.Tie as tie
 
 -- as many numbers are lent as are staged
-lent-is : (n : ℕ) → 4096 + n - 4096 ≡ n
+lent-is : (n : ℕ) → leastWork + n - leastWork ≡ n
 lent-is n = omega arith
 
 add-put-back : tie.Need-add-put-back
@@ -26,7 +27,7 @@ part-put-back-end c = search needs
 put-back-requires : tie.Need-put-back-requires
 put-back-requires c κs =
     let start = c .before .before .before .before in
-    lent-translatable (start .pre) (4096 + start .args .n - 4096) (lent-is (start .args .n))
+    lent-translatable (start .pre) (leastWork + start .args .n - leastWork) (lent-is (start .args .n))
 
 add-write : tie.Need-add-write
 add-write c = search needs
@@ -44,7 +45,7 @@ write-requires : tie.Need-write-requires
 write-requires c κs =
     let back = c .before .before .before .before in
     let start = back .before .before .before .before .before in
-    let k : ℕ = 4096 + start .args .n - 4096 in (
+    let k : ℕ = leastWork + start .args .n - leastWork in (
       cut-fits (start .pre) k (lent-is (start .args .n)) (back .put-back .last .1 .0) (back .put-back .ensures),
       (
         cut-distinct (start .pre) k (lent-is (start .args .n)) (back .put-back .last .1 .0) (back .put-back .ensures),
@@ -63,7 +64,7 @@ returns c =
     let out = c .before .before .before .before in
     let back = out .before .before .before .before .before in
     let start = back .before .before .before .before .before in
-    writes (start .pre) (4096 + start .args .n - 4096) (lent-is (start .args .n)) (back .put-back .last .1 .0) (back .put-back .ensures)
+    writes (start .pre) (leastWork + start .args .n - leastWork) (lent-is (start .args .n)) (back .put-back .last .1 .0) (back .put-back .ensures)
     (out .write .last .0) (out .write .kept .0) (out .write .ensures)
 
 pub write-out-spec : {M : Type 1} → statement M

@@ -1,13 +1,13 @@
--- `clearing::wipe` meets its contract: the steps left are from a or above.
+-- `pattern_entries::clear_steps` meets its contract: the steps left are from a or above.
 use Prim.Native.Nat.{_-_}
 use native.Mathlib.Omega.{arith}
 use Rattle.model.specs.Limits.{mostVertices}
-use Rattle.clearing.proofs.Emptied.{Emptied, emptied-none, emptied-more, emptied-next, emptied-all}
-use Rattle.clearing.proofs.wipe.Statement.{statement}
-use Rattle.clearing.proofs.wipe.Tie as tie
+use Rattle.pattern_entries.proofs.Clearing.{Clearing, clearing-none, clearing-more, clearing-next, clearing-all}
+use Rattle.pattern_entries.proofs.clear_steps.Statement.{statement}
+use Rattle.pattern_entries.proofs.clear_steps.Tie as tie
 
 abbrev Inv-loop : tie.InvT-loop
-Inv-loop w₀ domain a₀ w a = Emptied w₀ w a
+Inv-loop w₀ domain a₀ w a = Clearing w₀ w a
 
 abbrev μ-loop : tie.MeasureT-loop
 μ-loop w₀ domain a₀ w a = mostVertices - a
@@ -16,7 +16,7 @@ next-requires : tie.Need-next-requires Inv-loop μ-loop
 next-requires c κs = omega (arith, c .before .before .pre)
 
 loop-holds : tie.Need-loop-holds Inv-loop μ-loop
-loop-holds c = emptied-next emptied-none (c .before .before .before .pre) (c .next .ensures)
+loop-holds c = clearing-next clearing-none (c .before .before .before .pre) (c .next .ensures)
 
 clear-requires : tie.Need-clear-requires Inv-loop μ-loop
 clear-requires c κs =
@@ -29,7 +29,7 @@ add-next c = omega arith
 next-requires-2 : tie.Need-next-requires-2 Inv-loop μ-loop
 next-requires-2 c κs =
     let turn = c .before .before .before .before .before .before in
-    omega (arith, turn .before .before .before .before .pre, turn .loop .inv .keeps .len, c .before .before .before .clear .ensures .len)
+    omega (arith, turn .before .before .before .before .pre, turn .loop .inv .keeps .len, c .before .before .before .clear .ensures .keeps .len)
 
 loop-less : tie.Need-loop-less Inv-loop μ-loop
 loop-less c = omega (arith, c .next2 .ensures .low)
@@ -37,16 +37,16 @@ loop-less c = omega (arith, c .next2 .ensures .low)
 loop-again : tie.Need-loop-again Inv-loop μ-loop
 loop-again c =
     let turn = c .before .before .before .before .before .before .before in
-    emptied-next (emptied-more (turn .loop .inv) (c .before .before .before .before .before .before .loop-test .taken) (c .before .before .before .before .clear .ensures)) (turn .before .before .before .before .pre) (c .next2 .ensures)
+    clearing-next (clearing-more (turn .loop .inv) (c .before .before .before .before .before .before .loop-test .taken) (c .before .before .before .before .clear .ensures)) (turn .before .before .before .before .pre) (c .next2 .ensures)
 
 same-length : tie.Need-same-length Inv-loop μ-loop
 same-length c = c .before .loop .inv .keeps .len
 
 returns : tie.Need-returns Inv-loop μ-loop
-returns c = emptied-all (c .before .loop .inv) (c .loop-test .left)
+returns c = clearing-all (c .before .loop .inv) (c .loop-test .left)
 
-pub wipe-spec : {M : Type 1} → statement M
-wipe-spec =
+pub clear-steps-spec : {M : Type 1} → statement M
+clear-steps-spec =
     tie.close
     (tie.spec
     Inv-loop

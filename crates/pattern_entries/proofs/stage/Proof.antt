@@ -1,46 +1,45 @@
--- `hubs::stage_pattern` meets its contract: filled, closed, staged, emptied.
+-- `pattern_entries::stage` meets its contract: filled, closed, staged, emptied.
 use borrow.Author.Needs.{needs}
-use Rattle.hubs.proofs.Patterning.{closable, transits, stageable, wipeable, patterned}
-use Rattle.hubs.proofs.stage_pattern.Statement.{statement}
-use Rattle.hubs.proofs.stage_pattern.Tie as tie
+use Rattle.pattern_entries.proofs.Patterning.{fillable, domain, stageable, clearable, pattern-stages}
+use Rattle.pattern_entries.proofs.stage.Statement.{statement}
+use Rattle.pattern_entries.proofs.stage.Tie as tie
 
-fill-forth-requires : tie.Need-fill-forth-requires
-fill-forth-requires c κs = c .before .before .before .before .pre .fillable
+fill-requires : tie.Need-fill-requires
+fill-requires c κs = let pre = c .before .before .before .before .pre in (pre .slotted, fillable pre)
 
 close-requires : tie.Need-close-requires
 close-requires c κs =
-    let forth = c .before .before .before in
-    closable (forth .before .before .before .before .before .pre) (forth .fill-forth .ensures)
+    let fill = c .before .before .before in
+    domain (fill .before .before .before .before .before .pre) (fill .fill .ensures)
 
-stage-sides-requires : tie.Need-stage-sides-requires
-stage-sides-requires c κs =
+stage-requires : tie.Need-stage-requires
+stage-requires c κs =
     let close = c .before .before .before in
-    let forth = close .before .before .before .before in
-    let pre = forth .before .before .before .before .before .pre in
-    (stageable pre (forth .fill-forth .ensures) (close .close .ensures), transits pre (forth .fill-forth .ensures) (close .close .ensures))
+    let fill = close .before .before .before .before in
+    stageable (fill .before .before .before .before .before .pre) (fill .fill .ensures) (close .close .ensures)
 
-wipe-requires : tie.Need-wipe-requires
-wipe-requires c κs =
+clear-steps-requires : tie.Need-clear-steps-requires
+clear-steps-requires c κs =
     let staged = c .before .before .before in
     let close = staged .before .before .before .before in
-    let forth = close .before .before .before .before in
-    wipeable (forth .before .before .before .before .before .pre) (forth .fill-forth .ensures) (close .close .ensures) (staged .stage-sides .ensures)
+    let fill = close .before .before .before .before in
+    clearable (fill .before .before .before .before .before .pre) (fill .fill .ensures) (close .close .ensures) (staged .stage .ensures)
 
 same-length : tie.Need-same-length
 same-length c = search needs
 
 returns : tie.Need-returns
 returns c =
-    let wipe = c .before .before in
-    let staged = wipe .before .before .before .before in
+    let clear = c .before .before in
+    let staged = clear .before .before .before .before in
     let close = staged .before .before .before .before in
-    let forth = close .before .before .before .before in
-    patterned
-    (forth .before .before .before .before .before .pre)
-    (forth .fill-forth .ensures)
+    let fill = close .before .before .before .before in
+    pattern-stages
+    (fill .before .before .before .before .before .pre)
+    (fill .fill .ensures)
     (close .close .ensures)
-    (staged .stage-sides .ensures)
-    (wipe .wipe .ensures)
+    (staged .stage .ensures)
+    (clear .clear-steps .ensures)
 
-pub stage-pattern-spec : {M : Type 1} → statement M
-stage-pattern-spec = tie.close (tie.spec fill-forth-requires close-requires stage-sides-requires wipe-requires same-length returns)
+pub stage-spec : {M : Type 1} → statement M
+stage-spec = tie.close (tie.spec fill-requires close-requires stage-requires clear-steps-requires same-length returns)

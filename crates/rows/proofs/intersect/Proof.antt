@@ -1,8 +1,8 @@
--- `rows::meet` meets its contract.
+-- `rows::intersect` meets its contract.
 use borrow.Author.Needs.{needs}
-use Rattle.rows.proofs.Writes.{meet-is}
-use Rattle.rows.proofs.meet.Statement.{statement}
-use Rattle.rows.proofs.meet.Tie as tie
+use Rattle.rows.proofs.Writes.{intersect-is}
+use Rattle.rows.proofs.intersect.Statement.{statement}
+use Rattle.rows.proofs.intersect.Tie as tie
 
 load-requires : tie.Need-load-requires
 load-requires c κs = search needs
@@ -25,12 +25,12 @@ returns c =
     let paired = written .before .before in
     let second = paired .before in
     let first = second .before .before in
-    meet-is
+    intersect-is
     (first .before .before .before .pre)
     (first .load .ensures)
     (second .load2 .ensures)
     (paired .both .ensures)
     (written .store .ensures)
 
-pub meet-spec : {M : Type 1} → statement M
-meet-spec = tie.close (tie.spec load-requires load-requires-2 both-requires store-requires same-length returns)
+pub intersect-spec : {M : Type 1} → statement M
+intersect-spec = tie.close (tie.spec load-requires load-requires-2 both-requires store-requires same-length returns)

@@ -1,8 +1,8 @@
--- `rows::less` meets its contract.
+-- `rows::subtract` meets its contract.
 use borrow.Author.Needs.{needs}
-use Rattle.rows.proofs.Writes.{less-is}
-use Rattle.rows.proofs.less.Statement.{statement}
-use Rattle.rows.proofs.less.Tie as tie
+use Rattle.rows.proofs.Writes.{subtract-is}
+use Rattle.rows.proofs.subtract.Statement.{statement}
+use Rattle.rows.proofs.subtract.Tie as tie
 
 load-requires : tie.Need-load-requires
 load-requires c κs = search needs
@@ -25,12 +25,12 @@ returns c =
     let paired = written .before .before in
     let second = paired .before in
     let first = second .before .before in
-    less-is
+    subtract-is
     (first .before .before .before .pre)
     (first .load .ensures)
     (second .load2 .ensures)
     (paired .first-only .ensures)
     (written .store .ensures)
 
-pub less-spec : {M : Type 1} → statement M
-less-spec = tie.close (tie.spec load-requires load-requires-2 first-only-requires store-requires same-length returns)
+pub subtract-spec : {M : Type 1} → statement M
+subtract-spec = tie.close (tie.spec load-requires load-requires-2 first-only-requires store-requires same-length returns)

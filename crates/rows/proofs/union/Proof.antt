@@ -1,8 +1,8 @@
--- `rows::join` meets its contract.
+-- `rows::union` meets its contract.
 use borrow.Author.Needs.{needs}
-use Rattle.rows.proofs.Writes.{join-is}
-use Rattle.rows.proofs.join.Statement.{statement}
-use Rattle.rows.proofs.join.Tie as tie
+use Rattle.rows.proofs.Writes.{union-is}
+use Rattle.rows.proofs.union.Statement.{statement}
+use Rattle.rows.proofs.union.Tie as tie
 
 load-requires : tie.Need-load-requires
 load-requires c κs = search needs
@@ -25,12 +25,12 @@ returns c =
     let paired = written .before .before in
     let second = paired .before in
     let first = second .before .before in
-    join-is
+    union-is
     (first .before .before .before .pre)
     (first .load .ensures)
     (second .load2 .ensures)
     (paired .either .ensures)
     (written .store .ensures)
 
-pub join-spec : {M : Type 1} → statement M
-join-spec = tie.close (tie.spec load-requires load-requires-2 either-requires store-requires same-length returns)
+pub union-spec : {M : Type 1} → statement M
+union-spec = tie.close (tie.spec load-requires load-requires-2 either-requires store-requires same-length returns)

@@ -1,53 +1,52 @@
--- `staging::emit_out` meets its contract: the entries of the hubs before u are staged, and their rows struck out.
+-- `staging::stage_owner` meets its contract: the entries of the hubs before u are staged, and their rows struck out.
 use mathlib.Core.Path.{refl, _∙_}
 use Prim.Native.Nat.{_+_, _-_, _≤_}
-use borrow.Author.Needs.{needs}
 use native.Mathlib.Omega.{arith}
 use lib.ListN.{length, length-set}
 use Rattle.model.specs.Limits.{mostVertices, leastWork}
-use Rattle.rows.proofs.Rows.{has-kept}
-use Rattle.staging.proofs.Owning.{Taken, joined-transits, taken-none, taken-since, taken-over, taken-more, taken-all}
-use Rattle.staging.proofs.emit_out.Statement.{statement}
-use Rattle.staging.proofs.emit_out.Tie as tie
+use Rattle.rows.proofs.Rows.{keeps-has}
+use Rattle.staging.proofs.Picking.{picked-steps, transits-as}
+use Rattle.staging.proofs.Owning.{Taking, taking-none, taking-full, taking-more, taking-all, owner-stages}
+use Rattle.staging.proofs.stage_owner.Statement.{statement}
+use Rattle.staging.proofs.stage_owner.Tie as tie
 
 abbrev Inv-loop : tie.InvT-loop
-Inv-loop w₀ s code slots cnt n₀ u₀ w n u = Taken w₀ s code slots cnt w n u
+Inv-loop w₀ s code slots cnt n₀ u₀ w n u = Taking w₀ s code slots cnt w n u
 
 abbrev μ-loop : tie.MeasureT-loop
 μ-loop w₀ s code slots cnt n₀ u₀ w n u = mostVertices - u
 
 -- there is room for the slots
 room : (c : tie.At-loop Inv-loop μ-loop) → leastWork + c .before .before .before .before .before .before .before .before .args .slots ≤ length (c .loop .w)
-room c = omega (arith, c .loop .inv .adds .len, c .before .before .before .before .before .join .ensures .len, c .before .before .before .before .before .before .before .before .pre .0 .room)
+room c =
+    let copy = c .before .before .before .before .before in
+    omega (arith, c .loop .inv .stages .keeps .len, copy .copy .ensures .keeps .len, copy .before .before .before .pre .room)
 
-join-requires : tie.Need-join-requires Inv-loop μ-loop
-join-requires c κs = search needs
+copy-requires : tie.Need-copy-requires Inv-loop μ-loop
+copy-requires c κs = omega arith
 
 next-requires : tie.Need-next-requires Inv-loop μ-loop
-next-requires c κs = search needs
+next-requires c κs = omega arith
 
 loop-holds : tie.Need-loop-holds Inv-loop μ-loop
 loop-holds c =
-    let join = c .before .before .before .before in
-    let pre = join .before .before .before .pre in
-    taken-none (pre .0) (pre .1) (join .join .ensures) (c .next .ensures)
+    let copy = c .before .before .before .before in
+    let pre = copy .before .before .before .pre in
+    let copied = copy .copy .ensures in
+    taking-none (pre .vertex) (pre .count) (transits-as (picked-steps (copied .keeps)) (pre .transits)) copied (c .next .ensures)
 
 add-result : tie.Need-add-result Inv-loop μ-loop
 add-result c = omega (arith, room (c .before .before))
 
 same-length : tie.Need-same-length Inv-loop μ-loop
-same-length c = c .before .before .loop .inv .adds .len ∙ c .before .before .before .before .before .before .before .join .ensures .len
+same-length c = c .before .before .loop .inv .stages .keeps .len ∙ c .before .before .before .before .before .before .before .copy .ensures .keeps .len
 
 returns : tie.Need-returns Inv-loop μ-loop
 returns c =
     let turn = c .before in
-    let join = turn .before .before .before .before .before .before in
-    let pre = join .before .before .before .pre in
-    taken-since
-    (pre .0)
-    (pre .1)
-    (join .join .ensures)
-    (taken-over (turn .before .loop .inv) (omega (arith, turn .loop-test .taken)) (pre .0 .vertex) refl (omega (arith, c .if1 .taken)))
+    let copy = turn .before .before .before .before .before .before in
+    let pre = copy .before .before .before .pre in
+    owner-stages pre (copy .copy .ensures) (taking-full (turn .before .loop .inv) (turn .loop-test .taken) (pre .vertex) refl (c .if1 .taken))
 
 mul-w : tie.Need-mul-w Inv-loop μ-loop
 mul-w c = omega arith
@@ -73,8 +72,8 @@ slice-write-w c = omega (arith, room (c .before .before))
 add-n : tie.Need-add-n Inv-loop μ-loop
 add-n c = omega (arith, room (c .before .before))
 
-less-requires : tie.Need-less-requires Inv-loop μ-loop
-less-requires c κs =
+subtract-requires : tie.Need-subtract-requires Inv-loop μ-loop
+subtract-requires c κs =
     let l = room (c .before .before .before) in (
       record { row = omega arith; long = simp length-set (omega arith) },
       (record { row = omega arith; long = simp length-set (omega arith) }, record { row = omega arith; long = simp length-set (omega arith) }),
@@ -85,46 +84,45 @@ add-next c = omega arith
 
 next-requires-2 : tie.Need-next-requires-2 Inv-loop μ-loop
 next-requires-2 c κs =
-    let less = c .before .before .before in
-    let l = room (less .before .before .before .before) in
-    (has-kept (less .less .ensures) (record { row = omega arith; long = simp length-set (omega arith) }), omega arith)
+    let struck = c .before .before .before in
+    let l = room (struck .before .before .before .before) in
+    (keeps-has (struck .subtract .ensures .keeps) (record { row = omega arith; long = simp length-set (omega arith) }), omega arith)
 
 loop-less : tie.Need-loop-less Inv-loop μ-loop
 loop-less c = omega (arith, c .next2 .ensures .low)
 
 loop-again : tie.Need-loop-again Inv-loop μ-loop
 loop-again c =
-    let less = c .before .before .before .before in
-    let turn = less .before .before .before in
-    let join = turn .before .before .before .before .before .before in
-    let pre = join .before .before .before .pre in
-    taken-more
+    let struck = c .before .before .before .before in
+    let turn = struck .before .before .before in
+    let copy = turn .before .before .before .before .before .before in
+    let pre = copy .before .before .before .pre in
+    taking-more
     (turn .before .loop .inv)
-    (omega (arith, turn .loop-test .taken))
-    (pre .0 .vertex)
+    (turn .loop-test .taken)
+    (pre .vertex)
     (omega arith)
-    (omega (arith, room (turn .before)))
-    (less .less .ensures)
-    (omega (arith, less .before .before .if1 .left))
-    (joined-transits (pre .0) (pre .1) (join .join .ensures))
+    (room (turn .before))
+    (omega (arith, struck .before .before .if1 .left, turn .before .loop .inv .fits))
+    (struck .subtract .ensures)
+    (transits-as (picked-steps (copy .copy .ensures .keeps)) (pre .transits))
     (c .next2 .ensures)
 
 same-length-2 : tie.Need-same-length-2 Inv-loop μ-loop
-same-length-2 c = c .before .loop .inv .adds .len ∙ c .before .before .before .before .before .before .join .ensures .len
+same-length-2 c = c .before .loop .inv .stages .keeps .len ∙ c .before .before .before .before .before .before .copy .ensures .keeps .len
 
 returns-2 : tie.Need-returns-2 Inv-loop μ-loop
 returns-2 c =
-    let join = c .before .before .before .before .before .before in
-    let pre = join .before .before .before .pre in
-    taken-since (pre .0) (pre .1) (join .join .ensures) (taken-all (omega (arith, c .loop-test .left)) (c .before .loop .inv))
+    let copy = c .before .before .before .before .before .before in
+    owner-stages (copy .before .before .before .pre) (copy .copy .ensures) (taking-all (c .before .loop .inv) (c .loop-test .left))
 
-pub emit-out-spec : {M : Type 1} → statement M
-emit-out-spec =
+pub stage-owner-spec : {M : Type 1} → statement M
+stage-owner-spec =
     tie.close
     (tie.spec
     Inv-loop
     μ-loop
-    join-requires
+    copy-requires
     next-requires
     loop-holds
     add-result
@@ -138,7 +136,7 @@ emit-out-spec =
     mul-w-3
     slice-write-w
     add-n
-    less-requires
+    subtract-requires
     add-next
     next-requires-2
     loop-less

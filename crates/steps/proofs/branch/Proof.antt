@@ -1,4 +1,4 @@
--- `steps::branch` meets its contract: the eight rows are the vertices that an edge before slot i leads from into row `starts`.
+-- `steps::branch` meets its contract: the rows are the vertices that an edge before slot i leads from into row `starts`.
 use mathlib.Core.Path.{sym, _∙_}
 use mathlib.Core.Logic.{⊎-elim}
 use Prim.Native.Nat.{_-_, _≤_, _<_}
@@ -7,7 +7,7 @@ use lib.ListN.{length, getD}
 use Rattle.model.specs.Limits.{mostVertices, mostLabel, leastWork}
 use Rattle.model.specs.Edges.{fromOf, labelOf}
 use Rattle.model.proofs.Lists.{getD-in}
-use Rattle.steps.proofs.Kept.{keeps-long}
+use Rattle.rows.proofs.Rows.{keeps-long}
 use Rattle.steps.proofs.Branching.{Branching, branch-none, branch-pass, branch-more, branch-all}
 use Rattle.steps.proofs.branch.Statement.{statement}
 use Rattle.steps.proofs.branch.Tie as tie
@@ -46,6 +46,9 @@ cast-bit c = omega arith
 
 bit-requires : tie.Need-bit-requires Inv-loop μ-loop
 bit-requires c κs = (record { row = c .before .before .before .before .before .before .before .before .before .before .pre .1 .starts-row; long = long (c .before .before .before) }, omega arith)
+
+rem-c : tie.Need-rem-c Inv-loop μ-loop
+rem-c c = omega arith
 
 cast-c : tie.Need-cast-c Inv-loop μ-loop
 cast-c c = omega arith
@@ -99,6 +102,7 @@ branch-spec =
     shared-slice-read-x
     cast-bit
     bit-requires
+    rem-c
     cast-c
     add-mark
     sub-mark

@@ -2,18 +2,19 @@
 use mathlib.Core.Path.{_∙_}
 use mathlib.Core.Logic.{⊎-elim}
 use native.Mathlib.Omega.{arith}
-use Rattle.endings.proofs.Noding.{Going, going-at, going-none, going-skip, going-more, child-node, noded-full, noded-short, noded-over, noded-all}
+use Rattle.suffixes.proofs.Noding.{Going, going-at, going-none, going-skip, going-more, child-node, node-full, node-short, node-over, node-all}
 use Prim.Native.Nat.{ℕ, _+_, _-_, _≤_, _<_}
+use Rattle.model.specs.Limits.{mostLabel}
 use borrow.Fn.Kinds.{In}
 use borrow.Fn.PlainCycle.{Measures, is, falls, and}
-use Rattle.endings.proofs.node.Reads as node
-use Rattle.endings.proofs.node.Kinds as node-kinds
-use Rattle.endings.proofs.+node.Lts-node as node-lts
-use Rattle.endings.proofs.child.Reads as child-reads
-use Rattle.endings.proofs.level.Reads as level-reads
+use Rattle.suffixes.proofs.node.Reads as node
+use Rattle.suffixes.proofs.node.Kinds as node-kinds
+use Rattle.suffixes.proofs.+node.Lts-node as node-lts
+use Rattle.suffixes.proofs.child.Reads as child-reads
+use Rattle.suffixes.proofs.level.Reads as level-reads
 use Rattle.rows.proofs.next.Reads as next-reads
-use Rattle.endings.proofs.+node.{statement}
-use Rattle.endings.proofs.+node.Tie.{close}
+use Rattle.suffixes.proofs.+node.{statement}
+use Rattle.suffixes.proofs.+node.Tie.{close}
 
 abbrev μ-node : Measures 3 node-kinds.ps ℕ
 μ-node κs a = a .1 .1 .1 .1 .1 .1 .0 - a .1 .1 .1 .0
@@ -38,10 +39,10 @@ claims t = (
 )
 
 abbrev node-Inv-loop : node-lts.InvT-loop
-node-Inv-loop edges slots digits d w₁ starts longest room cnt n₁ c₀ w n c = (n ≤ room) × ((c ≤ 8) × Going edges digits w₁ d longest room n₁ w n c)
+node-Inv-loop edges slots digits d w₁ starts longest room cnt n₁ c₀ w n c = (n ≤ room) × ((c ≤ mostLabel) × Going edges digits w₁ d longest room n₁ w n c)
 
 abbrev node-μ-loop : node-lts.MeasureT-loop
-node-μ-loop edges slots digits d w₀ starts longest room cnt n₀ c₀ w n c = 8 - c
+node-μ-loop edges slots digits d w₀ starts longest room cnt n₀ c₀ w n c = mostLabel - c
 
 node-level-requires : (t : ℕ) → node-lts.Need-level-requires (claims t) (node-at t) node.Post node-Inv-loop node-μ-loop
 node-level-requires t c κs = c .before .before .before .before .pre .1
@@ -49,12 +50,12 @@ node-level-requires t c κs = c .before .before .before .before .pre .1
 node-same-length : (t : ℕ) → node-lts.Need-same-length (claims t) (node-at t) node.Post node-Inv-loop node-μ-loop
 node-same-length t c =
     let level = c .before .before .before in
-    level .level .ensures .held .len
+    level .level .ensures .stages .keeps .len
 
 node-returns : (t : ℕ) → node-lts.Need-returns (claims t) (node-at t) node.Post node-Inv-loop node-μ-loop
 node-returns t c =
     let level = c .before .before .before in
-    noded-full (level .before .before .before .before .before .pre .1) (level .level .ensures) (c .if1 .taken)
+    node-full (level .before .before .before .before .before .pre .1) (level .level .ensures) (c .if1 .taken)
 
 node-add-if2 : (t : ℕ) → node-lts.Need-add-if2 (claims t) (node-at t) node.Post node-Inv-loop node-μ-loop
 node-add-if2 t c = omega (arith, c .before .before .before .before .before .before .before .before .pre .1 .chosen .more, c .before .before .before .before .before .before .before .before .pre .1 .chosen .most)
@@ -62,12 +63,12 @@ node-add-if2 t c = omega (arith, c .before .before .before .before .before .befo
 node-same-length-2 : (t : ℕ) → node-lts.Need-same-length-2 (claims t) (node-at t) node.Post node-Inv-loop node-μ-loop
 node-same-length-2 t c =
     let level = c .before .before .before .before in
-    level .level .ensures .held .len
+    level .level .ensures .stages .keeps .len
 
 node-returns-2 : (t : ℕ) → node-lts.Need-returns-2 (claims t) (node-at t) node.Post node-Inv-loop node-μ-loop
 node-returns-2 t c =
     let level = c .before .before .before .before in
-    noded-short (level .before .before .before .before .before .pre .1) (level .level .ensures) (c .if2 .taken)
+    node-short (level .before .before .before .before .before .pre .1) (level .level .ensures) (c .if2 .taken)
 
 node-loop-holds : (t : ℕ) → node-lts.Need-loop-holds (claims t) (node-at t) node.Post node-Inv-loop node-μ-loop
 node-loop-holds t c =
@@ -103,7 +104,7 @@ node-next-requires t c κs =
     let pre = level .before .before .before .before .before .pre in (
       record {
         row = omega (arith, c .before .loop-test .taken, pre .1 .chosen .more, pre .1 .chosen .most);
-        long = omega (arith, loop .loop .inv .1 .1 .held .len, level .level .ensures .held .len, pre .1 .stocked .there);
+        long = omega (arith, loop .loop .inv .1 .1 .stages .keeps .len, level .level .ensures .stages .keeps .len, pre .1 .there);
       },
       omega arith,
     )
@@ -145,7 +146,7 @@ node-same-length-3 : (t : ℕ) → node-lts.Need-same-length-3 (claims t) (node-
 node-same-length-3 t c =
     let done = c .before .before .before in
     let loop = done .before .before .before .before .before .before .before in
-    done .node .ensures .held .len ∙ (loop .loop .inv .1 .1 .held .len ∙ loop .before .before .before .before .before .level .ensures .held .len)
+    done .node .ensures .keeps .len ∙ (loop .loop .inv .1 .1 .stages .keeps .len ∙ loop .before .before .before .before .before .level .ensures .stages .keeps .len)
 
 node-returns-3 : (t : ℕ) → node-lts.Need-returns-3 (claims t) (node-at t) node.Post node-Inv-loop node-μ-loop
 node-returns-3 t c =
@@ -155,7 +156,7 @@ node-returns-3 t c =
     let level = loop .before .before .before .before .before in
     let pre = level .before .before .before .before .before .pre in
     let fits = loop .before .before .if1 .left in
-    noded-over
+    node-over
     (pre .1)
     (level .level .ensures)
     fits
@@ -209,14 +210,14 @@ node-loop-again t c =
 node-same-length-4 : (t : ℕ) → node-lts.Need-same-length-4 (claims t) (node-at t) node.Post node-Inv-loop node-μ-loop
 node-same-length-4 t c =
     let loop = c .before in
-    loop .loop .inv .1 .1 .held .len ∙ loop .before .before .before .before .before .level .ensures .held .len
+    loop .loop .inv .1 .1 .stages .keeps .len ∙ loop .before .before .before .before .before .level .ensures .stages .keeps .len
 
 node-returns-4 : (t : ℕ) → node-lts.Need-returns-4 (claims t) (node-at t) node.Post node-Inv-loop node-μ-loop
 node-returns-4 t c =
     let loop = c .before in
     let level = loop .before .before .before .before .before in
     let pre = level .before .before .before .before .before .pre in
-    noded-all
+    node-all
     (pre .1)
     (level .level .ensures)
     (loop .before .before .if1 .left)

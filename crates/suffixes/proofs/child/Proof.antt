@@ -1,8 +1,8 @@
--- `endings::child` meets its contract: the label stands before the word.
+-- `suffixes::child` meets its contract: the label stands before the word.
 use borrow.Author.Needs.{needs}
-use Rattle.endings.proofs.Children.{child-set}
-use Rattle.endings.proofs.child.Statement.{statement}
-use Rattle.endings.proofs.child.Tie as tie
+use Rattle.suffixes.proofs.Children.{child-set}
+use Rattle.suffixes.proofs.child.Statement.{statement}
+use Rattle.suffixes.proofs.child.Tie as tie
 
 add-next : tie.Need-add-next
 add-next c = search needs

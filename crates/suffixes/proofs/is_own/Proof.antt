@@ -1,8 +1,8 @@
--- `endings::is_own` meets its contract: the minimum repeat is the pattern where it is as long.
+-- `suffixes::is_own` meets its contract: the minimum repeat is the pattern where it is as long.
 use borrow.Author.Needs.{needs}
-use Rattle.endings.proofs.Own.{own-length}
-use Rattle.endings.proofs.is_own.Statement.{statement}
-use Rattle.endings.proofs.is_own.Tie as tie
+use Rattle.suffixes.proofs.Own.{own-length}
+use Rattle.suffixes.proofs.is_own.Statement.{statement}
+use Rattle.suffixes.proofs.is_own.Tie as tie
 
 minimum-repeat-requires : tie.Need-minimum-repeat-requires
 minimum-repeat-requires c κs = search needs

@@ -1,13 +1,13 @@
--- `endings::leaf` meets its contract: nothing where no walk spells the pattern or it is no minimum repeat, else what it stages.
+-- `suffixes::leaf` meets its contract: nothing if no walk spells the pattern or it is no minimum repeat, else what it stages.
 use mathlib.Core.Path.{sym, ap, subst, _∙_}
 use native.Mathlib.Omega.{arith}
 use borrow.Author.Needs.{needs}
 use Rattle.model.specs.Limits.{mostLongest}
 use Rattle.model.specs.Patterns.{Keyed, own?, code as codeOf}
 use Rattle.model.proofs.Patterns.{keyed-up}
-use Rattle.endings.proofs.Leafing.{leafed-empty, part-word, keyed, leafed-folds, patternable, leafed}
-use Rattle.endings.proofs.leaf.Statement.{statement}
-use Rattle.endings.proofs.leaf.Tie as tie
+use Rattle.suffixes.proofs.Leafing.{leaf-empty, part-word, keyed, leaf-folds, pattern-stageable, leaf-stages}
+use Rattle.suffixes.proofs.leaf.Statement.{statement}
+use Rattle.suffixes.proofs.leaf.Tie as tie
 
 mul-row : tie.Need-mul-row
 mul-row c = search needs
@@ -27,7 +27,7 @@ same-length c = search needs
 returns : tie.Need-returns
 returns c =
     let pre = c .before .before .before .before .before .before .pre in
-    leafed-empty (pre .0) (pre .1) (c .before .next .ensures) (c .if1 .taken)
+    leaf-empty (pre .0) (pre .1) (c .before .next .ensures) (c .if1 .taken)
 
 child-requires : tie.Need-child-requires
 child-requires c κs = search needs
@@ -65,18 +65,18 @@ code-requires c κs =
     let pre = child .before .before .before .before .before .before .before .pre in
     subst (Keyed mostLongest) (sym (part-word (pre .0) (pre .1) (child .child .ensures))) (keyed-up (pre .0 .chosen .most) (keyed (pre .0) (pre .1)))
 
-add-stage-pattern : tie.Need-add-stage-pattern
-add-stage-pattern c = search needs
+add-stage : tie.Need-add-stage
+add-stage c = search needs
 
-cast-stage-pattern : tie.Need-cast-stage-pattern
-cast-stage-pattern c = search needs
+cast-stage : tie.Need-cast-stage
+cast-stage c = search needs
 
-stage-pattern-requires : tie.Need-stage-pattern-requires
-stage-pattern-requires c κs =
+stage-requires : tie.Need-stage-requires
+stage-requires c κs =
     let code = c .before in
     let child = code .before .before .before .before .before .before .before in
     let pre = child .before .before .before .before .before .before .before .pre in
-    patternable (pre .0) (pre .1) (omega arith) (code .code .ensures ∙ ap codeOf (part-word (pre .0) (pre .1) (child .child .ensures)))
+    pattern-stageable (pre .0) (pre .1) (omega arith) (code .code .ensures ∙ ap codeOf (part-word (pre .0) (pre .1) (child .child .ensures)))
 
 same-length-2 : tie.Need-same-length-2
 same-length-2 c = search needs
@@ -89,13 +89,13 @@ returns-2 c =
     let child = own .before .before .before in
     let pre = child .before .before .before .before .before .before .before .pre in
     let word = part-word (pre .0) (pre .1) (child .child .ensures) in
-    leafed
+    leaf-stages
     (pre .0)
     (pre .1)
     (omega arith)
     (code .code .ensures ∙ ap codeOf word)
     (ap own? (sym word) ∙ (sym (own .is-own .ensures) ∙ code .before .before .before .if2 .taken))
-    (staged .stage-pattern .ensures)
+    (staged .stage .ensures)
 
 same-length-3 : tie.Need-same-length-3
 same-length-3 c = search needs
@@ -105,7 +105,7 @@ returns-3 c =
     let own = c .before in
     let child = own .before .before .before in
     let pre = child .before .before .before .before .before .before .before .pre in
-    leafed-folds (pre .0) (pre .1) (ap own? (sym (part-word (pre .0) (pre .1) (child .child .ensures))) ∙ (sym (own .is-own .ensures) ∙ c .if2 .left))
+    leaf-folds (pre .0) (pre .1) (ap own? (sym (part-word (pre .0) (pre .1) (child .child .ensures))) ∙ (sym (own .is-own .ensures) ∙ c .if2 .left))
 
 pub leaf-spec : {M : Type 1} → statement M
 leaf-spec =
@@ -127,9 +127,9 @@ leaf-spec =
     part-code-start
     part-code-end
     code-requires
-    add-stage-pattern
-    cast-stage-pattern
-    stage-pattern-requires
+    add-stage
+    cast-stage
+    stage-requires
     same-length-2
     returns-2
     same-length-3

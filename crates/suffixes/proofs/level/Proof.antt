@@ -1,8 +1,8 @@
--- `endings::level` meets its contract: the rows are filled, and the entries with one label before the word staged.
+-- `suffixes::level` meets its contract: the rows are filled, and the entries with one label before the word staged.
 use borrow.Author.Needs.{needs}
-use Rattle.endings.proofs.Levelling.{digits-ready, parented-word, branchable, level-ready, levelled}
-use Rattle.endings.proofs.level.Statement.{statement}
-use Rattle.endings.proofs.level.Tie as tie
+use Rattle.suffixes.proofs.Levelling.{lent-ready, branchable, leaf-stageable, level-stages}
+use Rattle.suffixes.proofs.level.Statement.{statement}
+use Rattle.suffixes.proofs.level.Tie as tie
 
 sub-start : tie.Need-sub-start
 sub-start c = search needs
@@ -19,7 +19,7 @@ part-fill-parent-end c = search needs
 fill-parent-requires : tie.Need-fill-parent-requires
 fill-parent-requires c κs =
     let pre = c .before .before .before .before .before .before .pre in
-    (pre .ready, digits-ready pre)
+    (pre .slotted, lent-ready pre)
 
 mul-branch : tie.Need-mul-branch
 mul-branch c = search needs
@@ -31,14 +31,14 @@ branch-requires : tie.Need-branch-requires
 branch-requires c κs =
     let parent = c .before .before .before in
     let pre = parent .before .before .before .before .before .before .before .pre in
-    (pre .ready .edged, branchable pre (parented-word pre (parent .fill-parent .ensures)))
+    (pre .slotted .edged, branchable pre (parent .fill-parent .ensures))
 
 leaves-requires : tie.Need-leaves-requires
 leaves-requires c κs =
     let branch = c .before .before .before in
     let parent = branch .before .before .before .before in
     let pre = parent .before .before .before .before .before .before .before .pre in
-    level-ready pre (parented-word pre (parent .fill-parent .ensures)) (branch .branch .ensures)
+    leaf-stageable pre (parent .fill-parent .ensures) (branch .branch .ensures)
 
 same-length : tie.Need-same-length
 same-length c = search needs
@@ -49,7 +49,7 @@ returns c =
     let branch = leaves .before .before .before .before in
     let parent = branch .before .before .before .before in
     let pre = parent .before .before .before .before .before .before .before .pre in
-    levelled pre (parented-word pre (parent .fill-parent .ensures)) (branch .branch .ensures) (leaves .leaves .ensures)
+    level-stages pre (parent .fill-parent .ensures) (branch .branch .ensures) (leaves .leaves .ensures)
 
 pub level-spec : {M : Type 1} → statement M
 level-spec =
