@@ -5,7 +5,7 @@ use model::QueryReply;
 ghost use mathlib.Core.Path.{_≡_};
 ghost use lib.ListN.{length};
 ghost use Rattle.calls.specs.Query.{queryCall};
-ghost use Rattle.sort.specs.Order.{Distinct, Narrow, Sorts};
+ghost use Rattle.sort.specs.Order.{Distinct, FiveBytes, Sorts};
 ghost use Rattle.order.specs.Counting.{Countable, Counts};
 ghost use Rattle.build.specs.Build.{Buildable};
 ghost use Rattle.bench_c.specs.Bench.{BuildsNumber, answerNumber};
@@ -65,7 +65,7 @@ pub extern "C" fn bench_query(
 // The sort, as sort::sort.
 #[no_mangle]
 pub extern "C" fn bench_sort(staged: &mut [u64], sorted: &mut [u64])
-    requires { ⌜ (length (now staged) ≡ length (now sorted)) × (Distinct (now staged) × Narrow (now staged)) ⌝ }
+    requires { ⌜ (length (now staged) ≡ length (now sorted)) × (Distinct (now staged) × FiveBytes (now staged)) ⌝ }
     ensures { λ _. ⌜ Sorts (now (staged .entry)) (now (sorted .exit)) ⌝ }
 {
     sort::sort(staged, sorted);

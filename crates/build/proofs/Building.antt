@@ -14,7 +14,7 @@ use Rattle.rows.proofs.Rows.{keeps-then}
 use Rattle.output.proofs.Putting.{translate-narrow, translate-distinct}
 use Rattle.build.specs.declared.Built.the-variants.{Entries, TooMany}
 use Rattle.build.specs.Build.{Buildable, listOf, Builds}
-use Rattle.build.specs.Parts.{GraphStages, Writable, WritesOut}
+use Rattle.build.specs.Parts.{GraphStages, StageWritable, WritesStage}
 use Rattle.build.proofs.Listing.{staged-distinct, staged-translatable, listing-length, written-listing, too-many}
 
 -- with the counted order they are the determined entries
@@ -45,7 +45,7 @@ module _ {vertices longest : ℕ} {edges order w : List ℕ} (index : List ℕ) 
       there : leastWork + r ≤ length w₁
       there = omega (arith, s .stages .keeps .len, b .work)
 
-      pub writable : Writable (take vertices order) w₁ index r
+      pub writable : StageWritable (take vertices order) w₁ index r
       writable =
           let a = s .stages .done fits in
           let t = staged-translatable longest names (s .renumbers) small a there in
@@ -57,7 +57,7 @@ module _ {vertices longest : ℕ} {edges order w : List ℕ} (index : List ℕ) 
             narrow = translate-narrow t;
           }
 
-      pub builds-all : {w₂ index′ : List ℕ} → WritesOut (take vertices order) w₁ index r w₂ index′ → Builds g order index w index′ w₂ (Entries r)
+      pub builds-all : {w₂ index′ : List ℕ} → WritesStage (take vertices order) w₁ index r w₂ index′ → Builds g order index w index′ w₂ (Entries r)
       builds-all {w₂} {index′} z =
           let a = s .stages .done fits in
           let size = listing-length longest names (s .renumbers) small a there (z .written .sorts) in

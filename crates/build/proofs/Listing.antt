@@ -21,7 +21,7 @@ use Rattle.model.proofs.Entries.{entries-in, entries-out}
 use Rattle.model.proofs.Renumber.{entry-fields, entry-there, entry-back}
 use Rattle.model.proofs.Counting.{index-is, more-entries}
 use Rattle.sort.specs.Order.{Distinct, Sorts}
-use Rattle.output.specs.Output.{Translatable, Written}
+use Rattle.output.specs.Output.{Translatable, WritesIndex}
 use Rattle.output.proofs.Putting.{translate-once}
 use Rattle.staging.specs.Stage.{staged, Adds, Over}
 use Rattle.build.specs.Parts.{stagedList}
@@ -132,7 +132,7 @@ module _ {n : ℕ} (k : ℕ) {order edges edges′ : List ℕ} (names : Names n 
         listing-length = sym (staged-length w r room) ∙ sym (length-map (stagedList w r) (translate order)) ∙ sym (s .size) ∙ ap length listing
 
       -- index memory then
-      pub written-listing : {index index′ : List ℕ} → Written (map (translate order) (stagedList w r)) index index′
+      pub written-listing : {index index′ : List ℕ} → WritesIndex (map (translate order) (stagedList w r)) index index′
           → index′ ≡ filled (length index) (entries g order)
       written-listing {index} i = i .is ∙ ap (filled (length index)) (listing (i .sorts))
 

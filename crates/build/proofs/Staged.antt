@@ -14,7 +14,7 @@ use Rattle.model.proofs.Edges.{test-edge}
 use Rattle.edges.specs.Slots.{Starts}
 use Rattle.renumber.specs.Ranked.{Renumbered}
 use Rattle.rows.specs.Region.{savedRows, rootRow}
-use Rattle.rows.specs.Rows.{Within, Becomes}
+use Rattle.rows.specs.Rows.{InRows, Becomes}
 use Rattle.rows.proofs.Rows.{keeps-long}
 use Rattle.steps.specs.Steps.{Slotted}
 use Rattle.staging.specs.Stage.{Stages}
@@ -62,12 +62,12 @@ module _ {vertices longest : ℕ} {edges order w : List ℕ} {room : ℕ} (s : B
         none : (c : ℕ) → c ∈ wordOf blank 0 → (1 ≤ c) × (c ≤ mostLabel)
         none c m = absurd (List·Memᴰ·not-nil m)
 
-    pub graph-stages : {w₂ : List ℕ} {n : ℕ} → Stages w₁ (Within savedRows (baseOf 0)) (Beyond longest (PatternEntry renumbered) (wordOf blank 0)) room 0 w₂ n
+    pub graph-stages : {w₂ : List ℕ} {n : ℕ} → Stages w₁ (InRows savedRows (baseOf 0)) (Beyond longest (PatternEntry renumbered) (wordOf blank 0)) room 0 w₂ n
         → GraphStages vertices longest edges order w room w₂ n
     graph-stages {w₂} {n} v = record { edges′ = renumbered; renumbers = q .renumbers; stages = stages-since whole (r .keeps) (λ k x e. omega (arith, x .most)) (λ k l e. omega arith) }
       where
         same : (e : ℕ) → IsEntry (record { vertices = vertices; longest = longest; edges = renumbered }) (upTo vertices) e ↔ Beyond longest (PatternEntry renumbered) [] e
         same = entries-beyond vertices longest renumbered (s .bounds .vertices-most) (q .valid)
 
-        whole : Stages w₁ (Within savedRows rootRow) (IsEntry (record { vertices = vertices; longest = longest; edges = renumbered }) (upTo vertices)) room 0 w₂ n
+        whole : Stages w₁ (InRows savedRows rootRow) (IsEntry (record { vertices = vertices; longest = longest; edges = renumbered }) (upTo vertices)) room 0 w₂ n
         whole = stages-within (stages-as v (λ e. Iff·symm (same e))) (λ k x. record { least = x .least; most = omega (arith, x .most) })

@@ -7,9 +7,9 @@ use lib.ListN.{length, getD, take, drop, length-append, length-drop, length-map,
 use lib.Seq.{getD-take, take-at, drop-at, length-take-le}
 use Rattle.model.specs.Limits.{leastWork}
 use Rattle.model.specs.Renumber.{translate}
-use Rattle.sort.specs.Order.{Distinct, Narrow}
-use Rattle.output.specs.Output.{Translatable, Written}
-use Rattle.build.specs.Parts.{stagedList, Writable, WritesOut}
+use Rattle.sort.specs.Order.{Distinct, FiveBytes}
+use Rattle.output.specs.Output.{Translatable, WritesIndex}
+use Rattle.build.specs.Parts.{stagedList, StageWritable, WritesStage}
 
 -- w with part in the place of its k numbers from a on
 abbrev pub put : ℕ → ℕ → List ℕ → List ℕ → List ℕ
@@ -34,7 +34,7 @@ module _ (a k : ℕ) (w part : List ℕ) (size : length part ≡ k) (room : a + 
       ap (λ (l : List ℕ). take k l) (drop-at (take a w) (part ++ drop k (drop a w)) a front) ∙ take-at part (drop k (drop a w)) k size
 
 -- the code lends k numbers, which is how n comes out of a subtraction
-module _ {order w index : List ℕ} {n : ℕ} (ok : Writable order w index n) (k : ℕ) (e : k ≡ n) where
+module _ {order w index : List ℕ} {n : ℕ} (ok : StageWritable order w index n) (k : ℕ) (e : k ≡ n) where
   pub lent-translatable : Translatable order (take k (drop leastWork w))
   lent-translatable = rw e (ok .translatable)
 
@@ -60,12 +60,12 @@ module _ {order w index : List ℕ} {n : ℕ} (ok : Writable order w index n) (k
     pub cut-distinct : Distinct (take k (drop leastWork (put leastWork k w part)))
     cut-distinct = rw cut-part (ok .distinct)
 
-    pub cut-narrow : Narrow (take k (drop leastWork (put leastWork k w part)))
+    pub cut-narrow : FiveBytes (take k (drop leastWork (put leastWork k w part)))
     cut-narrow = rw cut-part (ok .narrow)
 
     pub writes : (last : List ℕ) {index′ : List ℕ} → length last ≡ length (take k (drop leastWork (put leastWork k w part)))
-        → Written (take k (drop leastWork (put leastWork k w part))) index index′
-        → WritesOut order w index n (put leastWork k (put leastWork k w part) last) index′
+        → WritesIndex (take k (drop leastWork (put leastWork k w part))) index index′
+        → WritesStage order w index n (put leastWork k (put leastWork k w part) last) index′
     writes last kept out =
         let u-length : length (put leastWork k w part) ≡ length w = put-length leastWork k w part size room in
         let u-room : leastWork + k ≤ length (put leastWork k w part) = omega (arith, u-length, room) in

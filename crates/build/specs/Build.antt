@@ -9,16 +9,16 @@ use Rattle.model.specs.Lists.{filled}
 use Rattle.model.specs.Limits.{leastWork}
 use Rattle.model.specs.Edges.{Graph, Bounds}
 use Rattle.model.specs.Entries.{entries}
-use Rattle.renumber.specs.Ranked.{Ordered}
+use Rattle.renumber.specs.Ranked.{Renumberable}
 use Rattle.rows.specs.Region.{savedRows, rootRow}
-use Rattle.rows.specs.Rows.{Keeps, Within}
+use Rattle.rows.specs.Rows.{KeepsRows, InRows}
 use Rattle.build.specs.declared.Built.{Built}
 use Rattle.build.specs.declared.Built.the-variants.{Entries, TooMany}
 
 -- a header's numbers, its standing edges, and an order of its vertices; work memory has room for every slot of the index
 pub record Buildable (vertices longest : ℕ) (edges order : List ℕ) (slots : ℕ) (w : List ℕ) : Type 0 where
   pub bounds : Bounds vertices longest
-  pub ordered : Ordered vertices edges order
+  pub ordered : Renumberable vertices edges order
   pub work : leastWork + slots ≤ length w
 
 -- the entries that the graph determines with the order in memory
@@ -34,7 +34,7 @@ indexOf g order index = cond (ltb (length index) (length (listOf g order))) inde
 
 -- the numbers in which edge memory is saved are kept
 abbrev pub Saved : List ℕ → List ℕ → Type 0
-Saved w w′ = Keeps w w′ (Within savedRows rootRow)
+Saved w w′ = KeepsRows w w′ (InRows savedRows rootRow)
 
 pub record Builds (g : Graph) (order index w index′ w′ : List ℕ) (r : Built) : Type 0 where
   pub reply : r ≡ builtOf g order (length index)

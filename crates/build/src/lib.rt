@@ -4,7 +4,7 @@ use model::LEAST_WORK;
 use model::MOST_LONGEST;
 ghost use lib.ListN.{length};
 ghost use Rattle.build.specs.Build.{Buildable, Builds};
-ghost use Rattle.build.specs.Parts.{GraphStages, Writable, WritesOut};
+ghost use Rattle.build.specs.Parts.{GraphStages, StageWritable, WritesStage};
 
 // How many entries the index has, or that they do not fit.
 pub enum Built {
@@ -43,8 +43,8 @@ fn stage(
 
 // Puts the n staged entries back to vertices, and writes them to index memory.
 fn write_out(order: &[u8], w: &mut [u64], n: usize, index: &mut [u64])
-    requires { ⌜ Writable (now order) (now w) (now index) n ⌝ }
-    ensures { λ _. ⌜ WritesOut (now (order .entry)) (now (w .entry)) (now (index .entry)) n (now (w .exit)) (now (index .exit)) ⌝ }
+    requires { ⌜ StageWritable (now order) (now w) (now index) n ⌝ }
+    ensures { λ _. ⌜ WritesStage (now (order .entry)) (now (w .entry)) (now (index .entry)) n (now (w .exit)) (now (index .exit)) ⌝ }
 {
     output::put_back(order, &mut w[LEAST_WORK..LEAST_WORK + n]);
     output::write(&mut w[LEAST_WORK..LEAST_WORK + n], index);

@@ -6,26 +6,26 @@ use Prim.Native.Nat.{ℕ, _+_, _≤_, _<_}
 use native.Mathlib.Omega.{arith}
 use native.Mathlib.Decide.{ℕ-discrete, decLt}
 use Rattle.model.specs.Limits.{mostVertices}
-use Rattle.rows.specs.Rows.{On, Keeps, Next, Step, Domain}
+use Rattle.rows.specs.Rows.{On, KeepsRows, NextVertex, Step, Domain}
 use Rattle.rows.specs.Region.{openRow, todoRow}
 use Rattle.rows.proofs.Rows.{keeps-none, keeps-as, keeps-then, keeps-domain}
 use Rattle.closure.specs.Closing.{Plus, one, Closes}
-use Rattle.closure.specs.Turns.{Whole, ClosesRow}
+use Rattle.closure.specs.Turns.{WholeRow, ClosesRow}
 use Rattle.closure.proofs.Plus.{plus-then, plus-from, plus-in, plus-flat, plus-map}
 use Rattle.closure.proofs.Looked.{beside-step}
 
 -- from w to v the rows before a have been closed
 pub record Closing (w v : List ℕ) (a : ℕ) : Type 0 where
-  pub keeps : Keeps w v (λ r. (mostVertices ≤ r) × ((r ≢ openRow) × (r ≢ todoRow)))
+  pub keeps : KeepsRows w v (λ r. (mostVertices ≤ r) × ((r ≢ openRow) × (r ≢ todoRow)))
   pub old : (x b : ℕ) → Step w x b → Step v x b
   pub only : (x b : ℕ) → Step v x b → Plus (Step w) x b
-  pub whole : (x : ℕ) → x < a → Whole v x
+  pub whole : (x : ℕ) → x < a → WholeRow v x
 
 pub closing-none : (w : List ℕ) → Closing w w 0
 closing-none w = record { keeps = keeps-none; old = λ x b s. s; only = λ x b s. one s; whole = λ x h. absurd (omega arith) }
 
 -- a whole row has all that one step or more lead to
-whole-all : {w : List ℕ} {a b : ℕ} → Whole w a → Plus (Step w) a b → Step w a b
+whole-all : {w : List ℕ} {a b : ℕ} → WholeRow w a → Plus (Step w) a b → Step w a b
 whole-all {w} {a} f = plus-in (Step w a) (f .through) (λ m s. s)
 
 module _ {w v : List ℕ} {a : ℕ} (m : Closing w v a) where
@@ -34,7 +34,7 @@ module _ {w v : List ℕ} {a : ℕ} (m : Closing w v a) where
       keeps-domain (m .keeps) (omega (arith, c .least), (λ e. omega (arith, c .most), λ e. omega (arith, c .most))) (λ x b s. plus-from (On w d) (c .starts) (m .only x b s)) c
 
   -- a vertex that is not in row d steps nowhere
-  pub closing-on : {d a′ : ℕ} → Domain w d → Next v d a a′ → Closing w v a′
+  pub closing-on : {d a′ : ℕ} → Domain w d → NextVertex v d a a′ → Closing w v a′
   closing-on c n =
       record {
         keeps = m .keeps;

@@ -6,24 +6,24 @@ use Prim.Native.Nat.{ℕ, _<_}
 use native.Mathlib.Omega.{arith}
 use native.Mathlib.Decide.{ℕ-discrete}
 use Rattle.model.specs.Limits.{mostVertices}
-use Rattle.rows.specs.Rows.{cell, On, Keeps, Becomes, Next, Step}
+use Rattle.rows.specs.Rows.{cell, On, KeepsRows, Becomes, NextVertex, Step}
 use Rattle.rows.specs.Region.{openRow, todoRow}
 use Rattle.rows.proofs.Rows.{cell-lt, cell-cases, next-none, keeps-none, keeps-as, keeps-then, keeps-cell, keeps-step, keeps-steps}
 use Rattle.closure.specs.Closing.{Plus, one}
-use Rattle.closure.specs.Turns.{Whole, RowClosable, Beside, ClosesRow, TakesIn}
+use Rattle.closure.specs.Turns.{WholeRow, RowClosable, Beside, ClosesRow, TakesIn}
 use Rattle.closure.proofs.Plus.{plus-then, plus-in, plus-as}
 use Rattle.closure.proofs.Sums.{sum, sum-falls}
 use Rattle.closure.proofs.Taking.{beside-open}
 
 -- from w to v row a has taken in the steps of every vertex that is not open
 pub record Looked (w v : List ℕ) (a : ℕ) : Type 0 where
-  pub keeps : Keeps w v (Beside a)
+  pub keeps : KeepsRows w v (Beside a)
   pub old : (b : ℕ) → Step w a b → Step v a b
   pub only : (b : ℕ) → Step v a b → Plus (Step w) a b
   pub looked : (x y : ℕ) → Step w x y → On v openRow x ⊎ Step v a y
 
 -- a vertex whose row is not the one that is closed steps where it did
-pub beside-step : {w v : List ℕ} {a x : ℕ} → Keeps w v (Beside a) → x < mostVertices → x ≢ a → (b : ℕ) → Step v x b ↔ Step w x b
+pub beside-step : {w v : List ℕ} {a x : ℕ} → KeepsRows w v (Beside a) → x < mostVertices → x ≢ a → (b : ℕ) → Step v x b ↔ Step w x b
 beside-step h l n = keeps-step h (n, (λ e. omega arith, λ e. omega arith))
 
 -- ---- every vertex that steps anywhere is opened
@@ -31,7 +31,7 @@ module _ {w w₁ : List ℕ} {d a : ℕ} (r : RowClosable w d a) (j : Becomes w 
   same : (x b : ℕ) → Step w₁ x b ↔ Step w x b
   same = keeps-steps (j .keeps) (λ x l e. omega arith)
 
-  pub opened-whole : (x : ℕ) → x < a → Whole w₁ x
+  pub opened-whole : (x : ℕ) → x < a → WholeRow w₁ x
   opened-whole x h = record { through = λ m b s t. same x b .1 (r .whole x h .through m b (same x m .0 s) (same m b .0 t)) }
 
   pub opened-none : Looked w₁ w₁ a
@@ -52,7 +52,7 @@ module _ {w w₁ : List ℕ} {d a : ℕ} (r : RowClosable w d a) (j : Becomes w 
 
 -- ---- a turn: p is the first of row a's open vertices
 module _ {w v v₁ : List ℕ} {a p : ℕ} (m : Looked w v a) (h : a < mostVertices)
-    (t : Becomes v v₁ todoRow (λ k. On v a k × On v openRow k)) (n : Next v₁ todoRow 0 p) where
+    (t : Becomes v v₁ todoRow (λ k. On v a k × On v openRow k)) (n : NextVertex v₁ todoRow 0 p) where
   opens : (x : ℕ) → x < mostVertices → cell v₁ openRow x ≡ cell v openRow x
   opens = keeps-cell (t .keeps) openRow (λ e. omega arith)
 
@@ -89,7 +89,7 @@ module _ {w v v₁ : List ℕ} {a p : ℕ} (m : Looked w v a) (h : a < mostVerti
       | no d ↦ inr (beside-step (gathered .keeps) l d b .1 s)
     ]
 
-    pub looked-more : ((x : ℕ) → x < a → Whole w x) → Looked w v₂ a
+    pub looked-more : ((x : ℕ) → x < a → WholeRow w x) → Looked w v₂ a
     looked-more f =
         record {
           keeps = keeps-then (gathered .keeps) (k .keeps);

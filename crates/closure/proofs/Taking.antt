@@ -6,12 +6,12 @@ use Prim.Native.Nat.{ℕ, _<_}
 use native.Mathlib.Omega.{arith}
 use native.Mathlib.Decide.{ℕ-discrete}
 use Rattle.model.specs.Limits.{mostVertices}
-use Rattle.rows.specs.Rows.{cell, On, Keeps, Becomes, Step}
+use Rattle.rows.specs.Rows.{cell, On, KeepsRows, Becomes, Step}
 use Rattle.rows.specs.Region.{openRow}
 use Rattle.rows.proofs.Rows.{on-dec, keeps-as, keeps-then, keeps-cell, keeps-step}
 use Rattle.closure.specs.Turns.{Beside, TakesIn}
 
-pub beside-open : {w w′ : List ℕ} {a : ℕ} {P : ℕ → Type 0} → Becomes w w′ openRow P → Keeps w w′ (Beside a)
+pub beside-open : {w w′ : List ℕ} {a : ℕ} {P : ℕ → Type 0} → Becomes w w′ openRow P → KeepsRows w w′ (Beside a)
 beside-open b = keeps-as (λ r x. x .1 .0) (b .keeps)
 
 module _ {w w₁ w₂ : List ℕ} {a p : ℕ} (h : a < mostVertices) (l : p < mostVertices) where

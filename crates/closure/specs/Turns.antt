@@ -4,19 +4,19 @@ use mathlib.Core.List.{List}
 use mathlib.Core.Logic.{_⊎_, _↔_, _≢_}
 use Prim.Native.Nat.{ℕ, _<_}
 use Rattle.model.specs.Limits.{mostVertices}
-use Rattle.rows.specs.Rows.{On, Keeps, Step, Domain}
+use Rattle.rows.specs.Rows.{On, KeepsRows, Step, Domain}
 use Rattle.rows.specs.Region.{openRow, todoRow}
 use Rattle.closure.specs.Closing.{Plus}
 
 -- row a has every step of its vertices
-pub record Whole (w : List ℕ) (a : ℕ) : Type 0 where
+pub record WholeRow (w : List ℕ) (a : ℕ) : Type 0 where
   pub through : (m b : ℕ) → Step w a m → Step w m b → Step w a b
 
 -- the rows before row a are whole
 pub record RowClosable (w : List ℕ) (d a : ℕ) : Type 0 where
   pub domain : Domain w d
   pub row : a < mostVertices
-  pub whole : (x : ℕ) → x < a → Whole w x
+  pub whole : (x : ℕ) → x < a → WholeRow w x
 
 -- the rows that the closing of row a keeps
 abbrev pub Beside : ℕ → ℕ → Type 0
@@ -24,12 +24,12 @@ Beside a r = (r ≢ a) × ((r ≢ openRow) × (r ≢ todoRow))
 
 -- row a has become all that one step or more led to from a
 pub record ClosesRow (w w′ : List ℕ) (a : ℕ) : Type 0 where
-  pub keeps : Keeps w w′ (Beside a)
+  pub keeps : KeepsRows w w′ (Beside a)
   pub is : (b : ℕ) → Step w′ a b ↔ Plus (Step w) a b
 
 -- row p is merged into row a, and p is open no more; nor need a vertex of row p be, if p is before a
 pub record TakesIn (w w′ : List ℕ) (a p : ℕ) : Type 0 where
-  pub keeps : Keeps w w′ (Beside a)
+  pub keeps : KeepsRows w w′ (Beside a)
   pub is : (b : ℕ) → Step w′ a b ↔ (Step w a b ⊎ Step w p b)
   pub gone : On w′ openRow p → ⊥
   pub less : (x : ℕ) → x < mostVertices → On w′ openRow x → On w openRow x

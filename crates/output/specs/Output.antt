@@ -16,7 +16,7 @@ pub record Translatable (order staged : List ℕ) : Type 0 where
   pub hubs : (x : ℕ) → x ∈ staged → hubOf x < length order
 
 -- index memory is the staged numbers in rising order, and zeros behind them
-pub record Written (staged index index′ : List ℕ) : Type 0 where
+pub record WritesIndex (staged index index′ : List ℕ) : Type 0 where
   pub sorted : List ℕ
   pub sorts : Sorts staged sorted
   pub is : index′ ≡ filled (length index) sorted

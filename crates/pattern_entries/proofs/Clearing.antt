@@ -7,13 +7,13 @@ use native.Mathlib.Omega.{arith}
 use native.Mathlib.Decide.{ℕ-discrete, decLt}
 use Rattle.model.specs.Limits.{mostVertices}
 use Rattle.rows.specs.Region.{stepRows}
-use Rattle.rows.specs.Rows.{Keeps, Within, Becomes, Next, Step, Domain}
+use Rattle.rows.specs.Rows.{KeepsRows, InRows, Becomes, NextVertex, Step, Domain}
 use Rattle.rows.proofs.Rows.{keeps-none, keeps-as, keeps-then, keeps-cell, keeps-step}
 use Rattle.steps.specs.Filling.{Clears}
 
 -- the steps left are old ones, from p or above
 pub record Clearing (w w′ : List ℕ) (p : ℕ) : Type 0 where
-  pub keeps : Keeps w w′ (λ r. Within stepRows (stepRows + mostVertices) r → ⊥)
+  pub keeps : KeepsRows w w′ (λ r. InRows stepRows (stepRows + mostVertices) r → ⊥)
   pub late : (a b : ℕ) → Step w′ a b → (p ≤ a) × Step w a b
 
 pub clearing-none : {w : List ℕ} → Clearing w w 0
@@ -31,7 +31,7 @@ module _ {w w′ : List ℕ} {p : ℕ} (h : Clearing w w′ p) where
       }
 
   -- the vertices passed over step nowhere
-  pub clearing-next : {d q : ℕ} → Domain w d → Next w′ d p q → Clearing w w′ q
+  pub clearing-next : {d q : ℕ} → Domain w d → NextVertex w′ d p q → Clearing w w′ q
   clearing-next {d} {q} c n =
       record {
         keeps = h .keeps;

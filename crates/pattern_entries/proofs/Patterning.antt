@@ -9,9 +9,9 @@ use Rattle.model.specs.Limits.{mostVertices}
 use Rattle.model.specs.Hubs.{EntryBy}
 use Rattle.model.proofs.Hubs.{entry-by-as}
 use Rattle.rows.specs.Region.{workRows, stepRows, parentRows, openRow}
-use Rattle.rows.specs.Rows.{On, Row, Within, Step, Domain}
+use Rattle.rows.specs.Rows.{On, Row, InRows, Step, Domain}
 use Rattle.rows.proofs.Rows.{keeps-cell, keeps-domain, keeps-long}
-use Rattle.steps.specs.Filling.{Via, Fillable, Fills, Clears}
+use Rattle.steps.specs.Filling.{Via, RowsFillable, FillsRows, Clears}
 use Rattle.closure.specs.Closing.{Plus, Closes}
 use Rattle.closure.proofs.Plus.{plus-then, plus-from, plus-as}
 use Rattle.staging.specs.Stage.{Stages, Unpicked, Stageable}
@@ -20,7 +20,7 @@ use Rattle.staging.proofs.Picking.{unpicked-steps}
 use Rattle.pattern_entries.specs.Pattern.{Led, PatternStageable, PatternStages, LedEntry}
 
 module _ {edges slots w : List ℕ} {label starts code room cnt : ℕ} (p : PatternStageable edges slots w label starts code room cnt) where
-  pub fillable : Fillable edges w label parentRows stepRows starts
+  pub fillable : RowsFillable edges w label parentRows stepRows starts
   fillable =
       record {
         long = omega (arith, p .there);
@@ -34,7 +34,7 @@ module _ {edges slots w : List ℕ} {label starts code room cnt : ℕ} (p : Patt
         sources = λ a t h k x. p .sources a t (record { from = h; to = k; via = x });
       }
 
-  module _ {w₁ : List ℕ} (f : Fills stepRows (λ a t. Via edges w parentRows a label t) w w₁) where
+  module _ {w₁ : List ℕ} (f : FillsRows stepRows (λ a t. Via edges w parentRows a label t) w w₁) where
     -- a vertex steps where the label and the word lead
     steps : (a b : ℕ) → Step w₁ a b ↔ Led edges w label a b
     steps a b = (
@@ -79,14 +79,14 @@ module _ {edges slots w : List ℕ} {label starts code room cnt : ℕ} (p : Patt
         pub pattern-stages : {w₄ : List ℕ} → Clears w₃ w₄ stepRows mostVertices → PatternStages w (LedEntry edges w label code) room cnt w₄ r
         pattern-stages {w₄} e = record { stages = first; quiet = e .empty }
           where
-            by-words : Stages w₂ (Within parentRows openRow) (LedEntry edges w label code) room cnt w₃ r
+            by-words : Stages w₂ (InRows parentRows openRow) (LedEntry edges w label code) room cnt w₃ r
             by-words = stages-within (stages-as s (λ x. (entry-by-as led, entry-by-as (λ a b. Iff·symm (led a b))))) (λ q x. (omega (arith, x .most), λ i. omega (arith, x .most)))
 
-            cleared : Stages w₂ (Within parentRows openRow) (LedEntry edges w label code) room cnt w₄ r
+            cleared : Stages w₂ (InRows parentRows openRow) (LedEntry edges w label code) room cnt w₄ r
             cleared = stages-kept by-words (e .keeps) (λ q x y. omega (arith, x .least, y .most)) (λ q l y. omega (arith, y .most))
 
-            since : Stages w₁ (Within parentRows openRow) (LedEntry edges w label code) room cnt w₄ r
+            since : Stages w₁ (InRows parentRows openRow) (LedEntry edges w label code) room cnt w₄ r
             since = stages-since cleared (c .keeps) (λ q x. (x .least, (λ i. omega (arith, x .most), λ i. omega (arith, x .most)))) (λ q l. (omega arith, (λ i. omega arith, λ i. omega arith)))
 
-            first : Stages w (Within parentRows openRow) (LedEntry edges w label code) room cnt w₄ r
+            first : Stages w (InRows parentRows openRow) (LedEntry edges w label code) room cnt w₄ r
             first = stages-since since (f .keeps) (λ q x y. omega (arith, x .least, y .most)) (λ q l y. omega (arith, y .most))

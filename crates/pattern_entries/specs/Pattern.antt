@@ -5,7 +5,7 @@ use lib.ListN.{length}
 use Rattle.model.specs.Limits.{mostVertices, mostLabel, leastWork, hubUnit}
 use Rattle.model.specs.Hubs.{EntryBy}
 use Rattle.rows.specs.Region.{stepRows, parentRows, childRows, openRow}
-use Rattle.rows.specs.Rows.{On, Within, Empty}
+use Rattle.rows.specs.Rows.{On, InRows, Empty}
 use Rattle.steps.specs.Steps.{Slotted}
 use Rattle.steps.specs.Filling.{Via}
 use Rattle.closure.specs.Closing.{Plus}
@@ -31,7 +31,7 @@ pub record PatternStageable (edges slots w : List ℕ) (label starts code room c
 
 -- the entries of P are staged: the parent's rows and those behind are kept, and the step rows end empty
 pub record PatternStages (w : List ℕ) (P : ℕ → Type 0) (room cnt : ℕ) (w′ : List ℕ) (r : ℕ) : Type 0 where
-  pub stages : Stages w (Within parentRows openRow) P room cnt w′ r
+  pub stages : Stages w (InRows parentRows openRow) P room cnt w′ r
   pub quiet : Empty w′ stepRows mostVertices
 
 -- the entries by where the label and the word lead, once or more

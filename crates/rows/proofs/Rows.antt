@@ -8,7 +8,7 @@ use native.Mathlib.Decide.{ℕ-discrete}
 use lib.ListN.{length, getD}
 use Rattle.model.specs.Limits.{mostVertices, leastWork}
 use Rattle.rows.specs.Region.{rowNumbers}
-use Rattle.rows.specs.Rows.{cell, On, Has, Row, Keeps, Within, Empty, Becomes, Next, Step, Domain}
+use Rattle.rows.specs.Rows.{cell, On, Has, Row, KeepsRows, InRows, Empty, Becomes, NextVertex, Step, Domain}
 
 -- ---- one memory
 
@@ -24,7 +24,7 @@ module _ (w : List ℕ) (r j : ℕ) where
   on-dec = ℕ-discrete (cell w r j) 1
 
 -- a row with no next vertex from 0 on is empty
-pub next-none : {w : List ℕ} {r p q : ℕ} → Next w r p q → p ≡ 0 → q ≡ mostVertices → (j : ℕ) → j < mostVertices → On w r j → ⊥
+pub next-none : {w : List ℕ} {r p q : ℕ} → NextVertex w r p q → p ≡ 0 → q ≡ mostVertices → (j : ℕ) → j < mostVertices → On w r j → ⊥
 next-none h d e j l = h .gap j (omega arith) (omega arith)
 
 module _ {w : List ℕ} {r : ℕ} {P Q : ℕ → Type 0} where
@@ -36,21 +36,21 @@ becomes-as b f = record { keeps = b .keeps; row = row-as f (b .row) }
 
 -- ---- two memories
 
-pub keeps-none : {w : List ℕ} {K : ℕ → Type 0} → Keeps w w K
+pub keeps-none : {w : List ℕ} {K : ℕ → Type 0} → KeepsRows w w K
 keeps-none = record { len = refl; same = λ k n. refl }
 
 module _ {w w′ : List ℕ} {K : ℕ → Type 0} where
   -- fewer rows are kept
-  pub keeps-as : {L : ℕ → Type 0} → ((r : ℕ) → L r → K r) → Keeps w w′ K → Keeps w w′ L
+  pub keeps-as : {L : ℕ → Type 0} → ((r : ℕ) → L r → K r) → KeepsRows w w′ K → KeepsRows w w′ L
   keeps-as f h = record { len = h .len; same = λ k n. h .same k (f _ n) }
 
-  pub keeps-then : {w″ : List ℕ} → Keeps w w′ K → Keeps w′ w″ K → Keeps w w″ K
+  pub keeps-then : {w″ : List ℕ} → KeepsRows w w′ K → KeepsRows w′ w″ K → KeepsRows w w″ K
   keeps-then h g = record { len = g .len ∙ h .len; same = λ k n. g .same k n ∙ h .same k n }
 
-  pub keeps-back : Keeps w w′ K → Keeps w′ w K
+  pub keeps-back : KeepsRows w w′ K → KeepsRows w′ w K
   keeps-back h = record { len = sym (h .len); same = λ k n. sym (h .same k n) }
 
-  module _ (h : Keeps w w′ K) where
+  module _ (h : KeepsRows w w′ K) where
     pub keeps-long : leastWork ≤ length w → leastWork ≤ length w′
     keeps-long l = omega (arith, h .len)
 
@@ -67,7 +67,7 @@ module _ {w w′ : List ℕ} {K : ℕ → Type 0} where
     keeps-row {r} x p =
         record { only = λ j l e. p .only j l (sym (keeps-cell r x j l) ∙ e); all = λ j l q. keeps-cell r x j l ∙ p .all j l q }
 
-    pub keeps-next : {r p q : ℕ} → K r → Next w′ r p q → Next w r p q
+    pub keeps-next : {r p q : ℕ} → K r → NextVertex w′ r p q → NextVertex w r p q
     keeps-next {r} x n =
         record {
           low = n .low;
@@ -76,7 +76,7 @@ module _ {w w′ : List ℕ} {K : ℕ → Type 0} where
           here = λ k. sym (keeps-cell r x _ k) ∙ n .here k;
         }
 
-    pub keeps-empty : {base n : ℕ} → ((r : ℕ) → Within base (base + n) r → K r) → Empty w base n → Empty w′ base n
+    pub keeps-empty : {base n : ℕ} → ((r : ℕ) → InRows base (base + n) r → K r) → Empty w base n → Empty w′ base n
     keeps-empty f e = record { none = λ r j x l o. e .none r j x l (sym (keeps-cell r (f r x) j l) ∙ o) }
 
     pub keeps-step : {a : ℕ} → K a → (b : ℕ) → Step w′ a b ↔ Step w a b

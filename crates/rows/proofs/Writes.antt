@@ -15,17 +15,17 @@ use lib.Seq.{getD-set-other}
 use Rattle.model.specs.Limits.{mostVertices}
 use Rattle.model.proofs.Lists.{getD-set}
 use Rattle.rows.specs.Region.{rowNumbers}
-use Rattle.rows.specs.Rows.{cell, On, Has, Keeps, Becomes}
+use Rattle.rows.specs.Rows.{cell, On, Has, KeepsRows, Becomes}
 use Rattle.rows.specs.Four.{without, paired, loaded, stored}
 use Rattle.rows.specs.declared.Words.{Words}
 use Rattle.rows.proofs.Bits.{bit, one, no-bit, full-bit, or-iff, and-iff, without-iff, one-iff}
 
 -- w′ is w with the first n numbers of row r made those of v
-record Writes (w w′ : List ℕ) (r : ℕ) (v : ℕ → ℕ) (n : ℕ) : Type 0 where
-  keeps : Keeps w w′ (λ q. q ≢ r)
+record Storing (w w′ : List ℕ) (r : ℕ) (v : ℕ → ℕ) (n : ℕ) : Type 0 where
+  keeps : KeepsRows w w′ (λ q. q ≢ r)
   done : (k : ℕ) → k < n → getD w′ (r * rowNumbers + k) 0 ≡ v k
 
-writes-all : {w w′ : List ℕ} {r : ℕ} {v : ℕ → ℕ} {P : ℕ → Type 0} → Writes w w′ r v rowNumbers
+writes-all : {w w′ : List ℕ} {r : ℕ} {v : ℕ → ℕ} {P : ℕ → Type 0} → Storing w w′ r v rowNumbers
     → ((j : ℕ) → j < mostVertices → (bit (v (j / 64)) (j % 64) ≡ 1) ↔ P j) → Becomes w w′ r P
 unfolding cell
 writes-all m f =
@@ -39,7 +39,7 @@ writes-all m f =
 
 -- ---- four numbers
 module _ {w : List ℕ} {r : ℕ} (h : Has w r) (v : ℕ → ℕ) where
-  writes-more : {cur : List ℕ} {i : ℕ} → i < rowNumbers → Writes w cur r v i → Writes w (set cur (r * rowNumbers + i) (v i)) r v (i + 1)
+  writes-more : {cur : List ℕ} {i : ℕ} → i < rowNumbers → Storing w cur r v i → Storing w (set cur (r * rowNumbers + i) (v i)) r v (i + 1)
   writes-more {cur} {i} l m =
       record {
         keeps = record {
@@ -53,10 +53,10 @@ module _ {w : List ℕ} {r : ℕ} (h : Has w r) (v : ℕ → ℕ) where
       → Becomes w (stored w r (record { a = v 0; b = v 1; c = v 2; d = v 3 })) r P
   stored-is = writes-all (writes-more (omega arith) (writes-more (omega arith) (writes-more (omega arith) first)))
     where
-      none : Writes w w r v 0
+      none : Storing w w r v 0
       none = record { keeps = record { len = refl; same = λ k _. refl }; done = λ k l. absurd (omega arith) }
 
-      first : Writes w (set w (r * rowNumbers) (v 0)) r v 1
+      first : Storing w (set w (r * rowNumbers) (v 0)) r v 1
       first = rw (add-zero (r * rowNumbers)) at (writes-more (omega arith) none)
 
 pub clear-is : {w w′ : List ℕ} {r : ℕ} → Has w r

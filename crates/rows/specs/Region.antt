@@ -9,7 +9,7 @@ rowNumbers = mostVertices / 64
 abbrev pub workRows : ℕ
 workRows = leastWork / rowNumbers
 
--- row a of the step rows: the vertices that vertex a steps to, for the pattern at hand; before that, every other ending of the word on the
+-- row a of the step rows: the vertices that vertex a steps to, for the pattern at hand; before that, every other suffix of the word on the
 -- way to the parent's rows
 abbrev pub stepRows : ℕ
 stepRows = 0

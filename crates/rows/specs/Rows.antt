@@ -26,26 +26,26 @@ pub record Row (w : List ℕ) (r : ℕ) (P : ℕ → Type 0) : Type 0 where
   pub all : (j : ℕ) → j < mostVertices → P j → On w r j
 
 -- from w to w′ the rows of K are kept, and the length. (Numbers behind the last row of work memory count as rows too.)
-pub record Keeps (w w′ : List ℕ) (K : ℕ → Type 0) : Type 0 where
+pub record KeepsRows (w w′ : List ℕ) (K : ℕ → Type 0) : Type 0 where
   pub len : length w′ ≡ length w
   pub same : (k : ℕ) → K (k / rowNumbers) → getD w′ k 0 ≡ getD w k 0
 
 -- row r is one of those from low up to high
-pub record Within (low high r : ℕ) : Type 0 where
+pub record InRows (low high r : ℕ) : Type 0 where
   pub least : low ≤ r
   pub most : r < high
 
 -- the n rows from base on are empty
 pub record Empty (w : List ℕ) (base n : ℕ) : Type 0 where
-  pub none : (r j : ℕ) → Within base (base + n) r → j < mostVertices → On w r j → ⊥
+  pub none : (r j : ℕ) → InRows base (base + n) r → j < mostVertices → On w r j → ⊥
 
 -- w′ is w with row r made the vertices of P, and nothing else changed
 pub record Becomes (w w′ : List ℕ) (r : ℕ) (P : ℕ → Type 0) : Type 0 where
-  pub keeps : Keeps w w′ (λ q. q ≢ r)
+  pub keeps : KeepsRows w w′ (λ q. q ≢ r)
   pub row : Row w′ r P
 
 -- q is the first vertex of row r from p on, or 256
-pub record Next (w : List ℕ) (r p q : ℕ) : Type 0 where
+pub record NextVertex (w : List ℕ) (r p q : ℕ) : Type 0 where
   pub low : p ≤ q
   pub high : q ≤ mostVertices
   pub gap : (j : ℕ) → p ≤ j → j < q → On w r j → ⊥

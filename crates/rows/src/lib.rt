@@ -9,7 +9,7 @@ ghost use mathlib.Core.Logic.{_⊎_};
 ghost use Prim.Native.Nat.{ℕ, _≤_, _<_};
 ghost use lib.Bits.{bitAnd, bitOr};
 ghost use Rattle.model.specs.Limits.{mostVertices};
-ghost use Rattle.rows.specs.Rows.{cell, On, Has, Becomes, Next};
+ghost use Rattle.rows.specs.Rows.{cell, On, Has, Becomes, NextVertex};
 ghost use Rattle.rows.specs.Four.{without, paired, loaded, stored};
 
 // The bits of a number, and the numbers of a row.
@@ -204,7 +204,7 @@ pub fn clear(w: &mut [u64], r: usize)
 // The first vertex of row r from p on, or MOST_VERTICES.
 pub fn next(w: &[u64], r: usize, p: usize) -> usize
     requires { ⌜ Has (now w) r × (p ≤ mostVertices) ⌝ }
-    ensures { λ q. ⌜ Next (now (w .entry)) r p q ⌝ }
+    ensures { λ q. ⌜ NextVertex (now (w .entry)) r p q ⌝ }
 {
     let mut q = p;
     while q < MOST_VERTICES {

@@ -10,9 +10,9 @@ use lib.ListN.{length, set, length-set}
 use lib.Seq.{getD-set-same, getD-set-other}
 use Rattle.model.specs.Limits.{leastWork}
 use Rattle.rows.specs.Region.{rowNumbers, workRows}
-use Rattle.rows.specs.Rows.{Keeps}
+use Rattle.rows.specs.Rows.{KeepsRows}
 use Rattle.rows.proofs.Rows.{keeps-none, keeps-as, keeps-then}
-use Rattle.staging.specs.Stage.{staged, Stands, Different, Adds, Over, Stages}
+use Rattle.staging.specs.Stage.{staged, StagedAt, Different, Adds, Over, Stages}
 
 -- ---- in one memory
 
@@ -125,10 +125,10 @@ pub stages-none : {w : List ℕ} {K P : ℕ → Type 0} {slots cnt : ℕ} → cn
 stages-none h n = record { keeps = keeps-none; old = λ i _. refl; done = λ _. adds-none n; over = λ l. absurd (omega arith) }
 
 -- the rows behind the last of work memory are the stage
-staged-kept : {w w′ : List ℕ} {K : ℕ → Type 0} → Keeps w w′ K → ((q : ℕ) → workRows ≤ q → K q) → (i : ℕ) → staged w′ i ≡ staged w i
+staged-kept : {w w′ : List ℕ} {K : ℕ → Type 0} → KeepsRows w w′ K → ((q : ℕ) → workRows ≤ q → K q) → (i : ℕ) → staged w′ i ≡ staged w i
 staged-kept h f i = h .same (leastWork + i) (f ((leastWork + i) / rowNumbers) (omega arith))
 
-pub put-keeps : (w : List ℕ) (k e : ℕ) → Keeps w (set w (leastWork + k) e) (λ q. q < workRows)
+pub put-keeps : (w : List ℕ) (k e : ℕ) → KeepsRows w (set w (leastWork + k) e) (λ q. q < workRows)
 put-keeps w k e = record { len = length-set w _ _; same = λ i x. getD-set-other w (leastWork + k) i e 0 (λ q. omega arith) }
 
 module _ {w w′ : List ℕ} {K P : ℕ → Type 0} {slots cnt r : ℕ} (s : Stages w K P slots cnt w′ r) where
@@ -152,7 +152,7 @@ module _ {w w′ : List ℕ} {K P : ℕ → Type 0} {slots cnt r : ℕ} (s : Sta
       }
 
   -- memory changes elsewhere, afterwards and before
-  pub stages-kept : {w″ : List ℕ} {L : ℕ → Type 0} → Keeps w′ w″ L → ((q : ℕ) → K q → L q) → ((q : ℕ) → workRows ≤ q → L q)
+  pub stages-kept : {w″ : List ℕ} {L : ℕ → Type 0} → KeepsRows w′ w″ L → ((q : ℕ) → K q → L q) → ((q : ℕ) → workRows ≤ q → L q)
       → Stages w K P slots cnt w″ r
   stages-kept h f g =
       let same = staged-kept h g in
@@ -163,7 +163,7 @@ module _ {w w′ : List ℕ} {K P : ℕ → Type 0} {slots cnt r : ℕ} (s : Sta
         over = λ l. over-kept (λ i _. same i) (s .over l);
       }
 
-  pub stages-since : {v : List ℕ} {L : ℕ → Type 0} → Keeps v w L → ((q : ℕ) → K q → L q) → ((q : ℕ) → workRows ≤ q → L q)
+  pub stages-since : {v : List ℕ} {L : ℕ → Type 0} → KeepsRows v w L → ((q : ℕ) → K q → L q) → ((q : ℕ) → workRows ≤ q → L q)
       → Stages v K P slots cnt w′ r
   stages-since h f g =
       record { keeps = keeps-then (keeps-as f h) (s .keeps); old = λ i l. s .old i l ∙ staged-kept h g i; done = s .done; over = s .over }

@@ -12,7 +12,7 @@ use Rattle.model.specs.Entries.{entryOf}
 use Rattle.model.specs.Query.{hubOf}
 use Rattle.model.specs.Hubs.{Picked}
 use Rattle.model.proofs.Renumber.{entry-fields}
-use Rattle.rows.specs.Rows.{On, Next, Step}
+use Rattle.rows.specs.Rows.{On, NextVertex, Step}
 use Rattle.rows.specs.Region.{workRows, pickedRow}
 use Rattle.rows.proofs.Rows.{keeps-next}
 use Rattle.staging.specs.Stage.{Stages, Unpicked}
@@ -58,8 +58,8 @@ abbrev Owner : List ℕ → ℕ → ℕ → Type 0
 Owner w u y = (u < y) × On w pickedRow y
 
 -- e is the entry with hub u of an owner below n
-abbrev pub Owners : List ℕ → ℕ → ℕ → ℕ → ℕ → Type 0
-Owners w u code = Emits (Owner w u) (λ y. entryOf 1 y u code)
+abbrev pub OwnerEntries : List ℕ → ℕ → ℕ → ℕ → ℕ → Type 0
+OwnerEntries w u code = Emits (Owner w u) (λ y. entryOf 1 y u code)
 
 -- the entries of the owners before y are staged, and y is the next vertex of row `picked`
 pub record Emitting (w : List ℕ) (u code slots cnt : ℕ) (w′ : List ℕ) (k y : ℕ) : Type 0 where
@@ -67,9 +67,9 @@ pub record Emitting (w : List ℕ) (u code slots cnt : ℕ) (w′ : List ℕ) (k
   pub high : y ≤ mostVertices
   pub here : y < mostVertices → On w pickedRow y
   pub fits : k ≤ slots
-  pub stages : Stages w (λ r. r < workRows) (Owners w u code y) slots cnt w′ k
+  pub stages : Stages w (λ r. r < workRows) (OwnerEntries w u code y) slots cnt w′ k
 
-pub emitting-none : {w : List ℕ} {u code slots cnt y : ℕ} → cnt ≤ slots → Next w pickedRow (u + 1) y → Emitting w u code slots cnt w cnt y
+pub emitting-none : {w : List ℕ} {u code slots cnt y : ℕ} → cnt ≤ slots → NextVertex w pickedRow (u + 1) y → Emitting w u code slots cnt w cnt y
 emitting-none c n =
     record {
       low = omega (arith, n .low);
@@ -80,39 +80,39 @@ emitting-none c n =
     }
 
 module _ {w w′ : List ℕ} {u code slots cnt k y : ℕ} (a : Emitting w u code slots cnt w′ k y) where
-  module _ (h : y < mostVertices) where
+  module _ (h : y < mostVertices) {x : ℕ} (is : x ≡ entryOf 1 y u code) where
     -- the entry of y is a new one
-    new : Owners w u code y (entryOf 1 y u code) → ⊥
+    new : OwnerEntries w u code y x → ⊥
     new m = omega (arith, m .is, m .early)
 
-    owner : Owner w u y
-    owner = (a .low, a .here h)
+    more : (e : ℕ) → (OwnerEntries w u code y e ⊎ (e ≡ x)) ↔ OwnerEntries w u code (y + 1) e
+    more e = rw is (emits-more (a .low, a .here h))
 
     -- every slot is taken, and y makes one entry more
-    pub emitting-full : k ≡ slots → Stages w (λ r. r < workRows) (Owners w u code mostVertices) slots cnt w′ (slots + 1)
-    emitting-full e = stages-over (stages-full (a .stages) _ new e) (omega arith) (λ x s. emits-up (omega arith) (emits-more owner .0 s))
+    pub emitting-full : k ≡ slots → Stages w (λ r. r < workRows) (OwnerEntries w u code mostVertices) slots cnt w′ (slots + 1)
+    emitting-full e = stages-over (stages-full (a .stages) x new e) (omega arith) (λ e s. emits-up (omega arith) (more e .0 s))
 
     -- the entry of y is staged
-    pub emitting-more : k < slots → leastWork + slots ≤ length w′ → {q : ℕ} → Next (set w′ (leastWork + k) (entryOf 1 y u code)) pickedRow (y + 1) q
-        → Emitting w u code slots cnt (set w′ (leastWork + k) (entryOf 1 y u code)) (k + 1) q
+    pub emitting-more : k < slots → leastWork + slots ≤ length w′ → {q : ℕ} → NextVertex (set w′ (leastWork + k) x) pickedRow (y + 1) q
+        → Emitting w u code slots cnt (set w′ (leastWork + k) x) (k + 1) q
     emitting-more f room {q} n′ =
         record {
           low = omega (arith, a .low, n .low);
           high = n .high;
           here = n .here;
           fits = omega arith;
-          stages = stages-as put (λ e. Iff·trans (emits-more owner) (emits-on (n .low) (λ v i j x. n .gap v i j (x .1))));
+          stages = stages-as put (λ e. Iff·trans (more e) (emits-on (n .low) (λ v i j z. n .gap v i j (z .1))));
         }
       where
-        put : Stages w (λ r. r < workRows) (λ e. Owners w u code y e ⊎ (e ≡ entryOf 1 y u code)) slots cnt (set w′ (leastWork + k) (entryOf 1 y u code)) (k + 1)
-        put = stages-put (a .stages) _ new f room (λ q x. x)
+        put : Stages w (λ r. r < workRows) (λ e. OwnerEntries w u code y e ⊎ (e ≡ x)) slots cnt (set w′ (leastWork + k) x) (k + 1)
+        put = stages-put (a .stages) x new f room (λ q z. z)
 
-        n : Next w pickedRow (y + 1) q
+        n : NextVertex w pickedRow (y + 1) q
         n = keeps-next (put .keeps) (omega arith) n′
 
   -- every owner is passed
-  pub emitting-all : mostVertices ≤ y → Stages w (λ r. r < workRows) (Owners w u code mostVertices) slots cnt w′ k
-  emitting-all h = subst (λ (n : ℕ). Stages w (λ r. r < workRows) (Owners w u code n) slots cnt w′ k) (le-antisymm (a .high) h) (a .stages)
+  pub emitting-all : mostVertices ≤ y → Stages w (λ r. r < workRows) (OwnerEntries w u code mostVertices) slots cnt w′ k
+  emitting-all h = subst (λ (n : ℕ). Stages w (λ r. r < workRows) (OwnerEntries w u code n) slots cnt w′ k) (le-antisymm (a .high) h) (a .stages)
 
 -- ---- as entries with hub u
 
@@ -120,7 +120,7 @@ module _ {w₀ w : List ℕ} {u code : ℕ} (small : u < mostVertices) (code-sma
   hub-is : (y v : ℕ) → y < mostVertices → v < mostVertices → hubOf (entryOf 1 y v code) ≡ v
   hub-is y v h l = let (_, _, e, _) = entry-fields 1 y v code h l code-small in e
 
-  hub-there : (e : ℕ) → Owners w u code mostVertices e → Of (Picked (Step w₀) 1 code) hubOf u e
+  hub-there : (e : ℕ) → OwnerEntries w u code mostVertices e → Of (Picked (Step w₀) 1 code) hubOf u e
   hub-there e m =
       let o = b .only (m .vertex) (omega (arith, m .holds .0)) (m .early) (m .holds .1) in
       record {
@@ -128,7 +128,7 @@ module _ {w₀ w : List ℕ} {u code : ℕ} (small : u < mostVertices) (code-sma
         here = ap hubOf (m .is) ∙ hub-is (m .vertex) u (m .early) small;
       }
 
-  hub-back : (e : ℕ) → Of (Picked (Step w₀) 1 code) hubOf u e → Owners w u code mostVertices e
+  hub-back : (e : ℕ) → Of (Picked (Step w₀) 1 code) hubOf u e → OwnerEntries w u code mostVertices e
   hub-back e x =
       let p = x .entry in
       let q : p .hub ≡ u = omega (arith, x .here, ap hubOf (p .is) ∙ hub-is (p .owner) (p .hub) (p .related .to) (p .related .from)) in
@@ -140,7 +140,7 @@ module _ {w₀ w : List ℕ} {u code : ℕ} (small : u < mostVertices) (code-sma
         is = rw q at (p .is);
       }
 
-  pub hub-stages : {w′ : List ℕ} {slots cnt r : ℕ} → Stages w (λ r. r < workRows) (Owners w u code mostVertices) slots cnt w′ r
+  pub hub-stages : {w′ : List ℕ} {slots cnt r : ℕ} → Stages w (λ r. r < workRows) (OwnerEntries w u code mostVertices) slots cnt w′ r
       → Stages w₀ Unpicked (Of (Picked (Step w₀) 1 code) hubOf u) slots cnt w′ r
   hub-stages s =
       stages-since (stages-within (stages-as s (λ e. (hub-there e, hub-back e))) (λ q x. x .0)) (b .keeps) (λ q x. x .1) (λ q l e. omega arith)

@@ -11,7 +11,7 @@ use Rattle.model.specs.Entries.{entryOf}
 use Rattle.model.specs.Query.{ownerOf}
 use Rattle.model.specs.Hubs.{Picked}
 use Rattle.model.proofs.Renumber.{entry-fields}
-use Rattle.rows.specs.Rows.{cell, On, Becomes, Next, Step}
+use Rattle.rows.specs.Rows.{cell, On, Becomes, NextVertex, Step}
 use Rattle.rows.specs.Region.{pickedRow}
 use Rattle.rows.proofs.Rows.{keeps-cell}
 use Rattle.staging.specs.Stage.{Transits, Stages, Unpicked}
@@ -31,7 +31,7 @@ pub record Open (w : List ℕ) (s : ℕ) (w′ : List ℕ) (n : ℕ) : Type 0 wh
 abbrev Hub : List ℕ → ℕ → ℕ → Type 0
 Hub w s u = (u ≤ s) × Free w s u u
 
-module _ {w w′ : List ℕ} {s n q : ℕ} (o : Open w s w′ n) (x : Next w′ pickedRow n q) where
+module _ {w w′ : List ℕ} {s n q : ℕ} (o : Open w s w′ n) (x : NextVertex w′ pickedRow n q) where
   -- a vertex passed over stands between s and none that is left: what it steps to was struck out with it
   open-on : Transits w → Open w s w′ q
   open-on t =
@@ -55,8 +55,8 @@ module _ {w w′ : List ℕ} {s n q : ℕ} (o : Open w s w′ n) (x : Next w′ 
 -- ---- hub by hub
 
 -- e is the out entry of owner s with a hub below n
-abbrev pub Hubs : List ℕ → ℕ → ℕ → ℕ → ℕ → Type 0
-Hubs w s code = Emits (Hub w s) (λ u. entryOf 0 s u code)
+abbrev pub HubEntries : List ℕ → ℕ → ℕ → ℕ → ℕ → Type 0
+HubEntries w s code = Emits (Hub w s) (λ u. entryOf 0 s u code)
 
 -- the entries of the hubs before u are staged, and u is the next vertex of row `picked`
 pub record Taking (w : List ℕ) (s code slots cnt : ℕ) (w′ : List ℕ) (k u : ℕ) : Type 0 where
@@ -64,11 +64,11 @@ pub record Taking (w : List ℕ) (s code slots cnt : ℕ) (w′ : List ℕ) (k u
   pub here : u < mostVertices → On w′ pickedRow u
   pub fits : k ≤ slots
   pub left : Open w s w′ u
-  pub stages : Stages w Unpicked (Hubs w s code u) slots cnt w′ k
+  pub stages : Stages w Unpicked (HubEntries w s code u) slots cnt w′ k
 
 -- row `picked` is row s
 pub taking-none : {w w₁ : List ℕ} {s code slots cnt u : ℕ} → s < mostVertices → cnt ≤ slots → Transits w₁ → Becomes w w₁ pickedRow (On w s)
-    → Next w₁ pickedRow 0 u → Taking w₁ s code slots cnt w₁ cnt u
+    → NextVertex w₁ pickedRow 0 u → Taking w₁ s code slots cnt w₁ cnt u
 taking-none {w} {w₁} {s} h c t b n =
     record {
       high = n .high;
@@ -94,14 +94,14 @@ module _ {w w′ : List ℕ} {s code slots cnt k u : ℕ} (a : Taking w s code s
     hub = (h, a .left .only u (omega arith) (omega arith) (a .here (omega arith)))
 
     -- the entry of hub u is a new one
-    new : Hubs w s code u x → ⊥
+    new : HubEntries w s code u x → ⊥
     new m = omega (arith, m .is, m .early)
 
-    more : (e : ℕ) → (Hubs w s code u e ⊎ (e ≡ x)) ↔ Hubs w s code (u + 1) e
+    more : (e : ℕ) → (HubEntries w s code u e ⊎ (e ≡ x)) ↔ HubEntries w s code (u + 1) e
     more e = rw is (emits-more hub)
 
     -- every slot is taken, and u makes one entry more
-    pub taking-full : k ≡ slots → Stages w Unpicked (Hubs w s code mostVertices) slots cnt w′ (slots + 1)
+    pub taking-full : k ≡ slots → Stages w Unpicked (HubEntries w s code mostVertices) slots cnt w′ (slots + 1)
     taking-full e = stages-over (stages-full (a .stages) x new e) (omega arith) (λ e m. emits-up (omega arith) (more e .0 m))
 
     -- the entry of u is staged, and row u struck out
@@ -110,7 +110,7 @@ module _ {w w′ : List ℕ} {s code slots cnt k u : ℕ} (a : Taking w s code s
       abbrev w₁ : List ℕ
       w₁ = set w′ (leastWork + k) x
 
-      put : Stages w Unpicked (λ e. Hubs w s code u e ⊎ (e ≡ x)) slots cnt w₁ (k + 1)
+      put : Stages w Unpicked (λ e. HubEntries w s code u e ⊎ (e ≡ x)) slots cnt w₁ (k + 1)
       put = stages-put (a .stages) x new g room (λ q z. z .0)
 
       picked : (j : ℕ) → j < mostVertices → cell w₁ pickedRow j ≡ cell w′ pickedRow j
@@ -140,7 +140,7 @@ module _ {w w′ : List ℕ} {s code slots cnt k u : ℕ} (a : Taking w s code s
                 );
           }
 
-      pub taking-more : Transits w → {q : ℕ} → Next w₂ pickedRow (u + 1) q → Taking w s code slots cnt w₂ (k + 1) q
+      pub taking-more : Transits w → {q : ℕ} → NextVertex w₂ pickedRow (u + 1) q → Taking w s code slots cnt w₂ (k + 1) q
       taking-more t n =
           record {
             high = n .high;
@@ -151,7 +151,7 @@ module _ {w w′ : List ℕ} {s code slots cnt k u : ℕ} (a : Taking w s code s
           }
 
   -- every hub up to s is passed
-  pub taking-all : s < u → Stages w Unpicked (Hubs w s code mostVertices) slots cnt w′ k
+  pub taking-all : s < u → Stages w Unpicked (HubEntries w s code mostVertices) slots cnt w′ k
   taking-all h = stages-as (a .stages) (λ e. emits-on (a .high) (λ v i _ m. omega (arith, m .0)))
 
 -- ---- as entries of owner s
@@ -163,7 +163,7 @@ module _ {w w₁ : List ℕ} {s code slots cnt : ℕ} (p : VertexStageable w s c
   same : (x y : ℕ) → Step w x y ↔ Step w₁ x y
   same = picked-steps (b .keeps)
 
-  owner-there : (e : ℕ) → Hubs w₁ s code mostVertices e → Of (Picked (λ u y. Step w y u) 0 code) ownerOf s e
+  owner-there : (e : ℕ) → HubEntries w₁ s code mostVertices e → Of (Picked (λ u y. Step w y u) 0 code) ownerOf s e
   owner-there e m =
       let f = free-as (λ x y. Iff·symm (same x y)) (m .holds .1) in
       record {
@@ -171,13 +171,13 @@ module _ {w w₁ : List ℕ} {s code slots cnt : ℕ} (p : VertexStageable w s c
         here = ap ownerOf (m .is) ∙ owner-is s (m .vertex) (p .vertex) (m .early);
       }
 
-  owner-back : (e : ℕ) → Of (Picked (λ u y. Step w y u) 0 code) ownerOf s e → Hubs w₁ s code mostVertices e
+  owner-back : (e : ℕ) → Of (Picked (λ u y. Step w y u) 0 code) ownerOf s e → HubEntries w₁ s code mostVertices e
   owner-back e x =
       let p = x .entry in
       let q : p .owner ≡ s = omega (arith, x .here, ap ownerOf (p .is) ∙ owner-is (p .owner) (p .hub) (p .related .from) (p .related .to)) in
       let f : Free w₁ (p .owner) (p .hub) (p .hub) = free-as same (record { step = p .related; alone = λ v h i j. p .alone v h j i }) in
       record { vertex = p .hub; early = p .related .to; holds = (omega (arith, p .late), rw q at f); is = rw q at (p .is) }
 
-  pub owner-stages : {w₂ : List ℕ} {r : ℕ} → Stages w₁ Unpicked (Hubs w₁ s code mostVertices) slots cnt w₂ r
+  pub owner-stages : {w₂ : List ℕ} {r : ℕ} → Stages w₁ Unpicked (HubEntries w₁ s code mostVertices) slots cnt w₂ r
       → Stages w Unpicked (Of (Picked (λ u y. Step w y u) 0 code) ownerOf s) slots cnt w₂ r
   owner-stages c = stages-since (stages-as c (λ e. (owner-there e, owner-back e))) (b .keeps) (λ q x. x .1) (λ q l e. omega arith)

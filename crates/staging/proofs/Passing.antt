@@ -6,7 +6,7 @@ use Prim.Native.Nat.{ℕ, _+_, _≤_, _<_}
 use native.Mathlib.Omega.{arith}
 use native.Mathlib.Decide.{decLt}
 use Rattle.model.specs.Limits.{mostVertices}
-use Rattle.rows.specs.Rows.{On, Next}
+use Rattle.rows.specs.Rows.{On, NextVertex}
 use Rattle.rows.proofs.Rows.{keeps-next}
 use Rattle.staging.specs.Stage.{Stages, Unpicked, Stageable}
 use Rattle.staging.specs.Vertex.{VertexStageable, Of}
@@ -14,7 +14,7 @@ use Rattle.staging.proofs.Adding.{stages-none, stages-as, stages-over, 
 use Rattle.staging.proofs.Picking.{unpicked-steps, transits-as}
 
 -- e is an entry of a vertex below n
-pub record Under (P : ℕ → Type 0) (at : ℕ → ℕ) (n e : ℕ) : Type 0 where
+pub record EntriesBelow (P : ℕ → Type 0) (at : ℕ → ℕ) (n e : ℕ) : Type 0 where
   pub entry : P e
   pub early : at e < n
 
@@ -22,16 +22,16 @@ pub record Under (P : ℕ → Type 0) (at : ℕ → ℕ) (n e : ℕ) : Type 0 wh
 pub record Through (w : List ℕ) (P : ℕ → Type 0) (at : ℕ → ℕ) (slots cnt : ℕ) (w′ : List ℕ) (k u : ℕ) : Type 0 where
   pub high : u ≤ mostVertices
   pub fits : k ≤ slots
-  pub stages : Stages w Unpicked (Under P at u) slots cnt w′ k
+  pub stages : Stages w Unpicked (EntriesBelow P at u) slots cnt w′ k
 
 -- every entry is that of a vertex in row d
-pub record Placed (w : List ℕ) (d : ℕ) (P : ℕ → Type 0) (at : ℕ → ℕ) : Type 0 where
+pub record Located (w : List ℕ) (d : ℕ) (P : ℕ → Type 0) (at : ℕ → ℕ) : Type 0 where
   pub small : (e : ℕ) → P e → at e < mostVertices
   pub starts : (e : ℕ) → P e → On w d (at e)
 
-module _ {w : List ℕ} {d code slots cnt : ℕ} (p : Stageable w d code slots cnt) {P : ℕ → Type 0} {at : ℕ → ℕ} (q : Placed w d P at) where
+module _ {w : List ℕ} {d code slots cnt : ℕ} (p : Stageable w d code slots cnt) {P : ℕ → Type 0} {at : ℕ → ℕ} (q : Located w d P at) where
   -- between two vertices of row d there is none with an entry
-  none-between : {a b : ℕ} → Next w d a b → (e : ℕ) → Under P at a e ↔ Under P at b e
+  none-between : {a b : ℕ} → NextVertex w d a b → (e : ℕ) → EntriesBelow P at a e ↔ EntriesBelow P at b e
   none-between {a} n e = (
     λ x. record { entry = x .entry; early = omega (arith, x .early, n .low) },
     λ x. elim (decLt (at e) a) [
@@ -40,7 +40,7 @@ module _ {w : List ℕ} {d code slots cnt : ℕ} (p : Stageable w d code slots c
     ],
   )
 
-  pub through-none : {u : ℕ} → Next w d 0 u → Through w P at slots cnt w cnt u
+  pub through-none : {u : ℕ} → NextVertex w d 0 u → Through w P at slots cnt w cnt u
   through-none n = record { high = n .high; fits = p .count; stages = stages-none (p .count) (λ e x. omega (arith, none-between n e .1 x .early)) }
 
   module _ {w₁ : List ℕ} {k u : ℕ} (a : Through w P at slots cnt w₁ k u) where
@@ -60,7 +60,7 @@ module _ {w : List ℕ} {d code slots cnt : ℕ} (p : Stageable w d code slots c
 
     -- the entries of vertex u are staged; P₁ is P as memory has it then
     module _ {P₁ : ℕ → Type 0} (same : (e : ℕ) → P₁ e ↔ P e) {w₂ : List ℕ} {k′ : ℕ} (c : Stages w₁ Unpicked (Of P₁ at u) slots k w₂ k′) where
-      turn : Stages w Unpicked (Under P at (u + 1)) slots cnt w₂ k′
+      turn : Stages w Unpicked (EntriesBelow P at (u + 1)) slots cnt w₂ k′
       turn = stages-as (stages-then (a .stages) (a .fits) (λ e x m. omega (arith, x .early, m .here)) c) (λ e. (
         ⊎-elim
             (λ x. record { entry = x .entry; early = omega (arith, x .early) })
@@ -74,7 +74,7 @@ module _ {w : List ℕ} {d code slots cnt : ℕ} (p : Stageable w d code slots c
       pub through-over : slots < k′ → Stages w Unpicked P slots cnt w₂ k′
       through-over l = stages-over turn l (λ e x. x .entry)
 
-      pub through-more : k′ ≤ slots → {v : ℕ} → Next w₂ d (u + 1) v → Through w P at slots cnt w₂ k′ v
+      pub through-more : k′ ≤ slots → {v : ℕ} → NextVertex w₂ d (u + 1) v → Through w P at slots cnt w₂ k′ v
       through-more l n′ =
           let n = keeps-next (turn .keeps) (omega (arith, p .domain .most), λ e. omega (arith, p .domain .most)) n′ in
           record { high = n .high; fits = l; stages = stages-as turn (none-between n) }

@@ -6,7 +6,7 @@ use Prim.Native.Nat.{ℕ, _+_, _≤_, _<_, min}
 use native.Mathlib.Omega.{arith}
 use native.Mathlib.Decide.{ℕ-discrete, decLt}
 use Rattle.model.specs.Limits.{mostVertices}
-use Rattle.rows.specs.Rows.{cell, On, Keeps, Becomes, Next, Step}
+use Rattle.rows.specs.Rows.{cell, On, KeepsRows, Becomes, NextVertex, Step}
 use Rattle.rows.specs.Region.{pickedRow}
 use Rattle.rows.proofs.Rows.{becomes-as, keeps-none, keeps-as, keeps-then, keeps-back, keeps-cell, keeps-next, keeps-steps}
 use Rattle.staging.specs.Stage.{Unpicked, Transits}
@@ -14,10 +14,10 @@ use Rattle.staging.specs.Vertex.{Free, Picks}
 
 -- ---- steps while row `picked` and the stage change
 
-pub unpicked-steps : {w w′ : List ℕ} → Keeps w w′ Unpicked → (a b : ℕ) → Step w a b ↔ Step w′ a b
+pub unpicked-steps : {w w′ : List ℕ} → KeepsRows w w′ Unpicked → (a b : ℕ) → Step w a b ↔ Step w′ a b
 unpicked-steps h = keeps-steps (keeps-back h) (λ a l. (omega arith, λ e. omega arith))
 
-pub picked-steps : {w w′ : List ℕ} → Keeps w w′ (λ r. r ≢ pickedRow) → (a b : ℕ) → Step w a b ↔ Step w′ a b
+pub picked-steps : {w w′ : List ℕ} → KeepsRows w w′ (λ r. r ≢ pickedRow) → (a b : ℕ) → Step w a b ↔ Step w′ a b
 picked-steps h = unpicked-steps (keeps-as (λ r x. x .1) h)
 
 module _ {w w′ : List ℕ} (same : (a b : ℕ) → Step w a b ↔ Step w′ a b) where
@@ -38,7 +38,7 @@ pub record Struck (w : List ℕ) (u : ℕ) (w′ : List ℕ) (v : ℕ) : Type 0 
   pub here : v < mostVertices → On w u v
   pub picked : Becomes w w′ pickedRow (Free w u (min u v))
 
-pub struck-none : {w w′ : List ℕ} {u v : ℕ} → u < mostVertices → Becomes w w′ pickedRow (On w u) → Next w′ u 0 v → Struck w′ u w′ v
+pub struck-none : {w w′ : List ℕ} {u v : ℕ} → u < mostVertices → Becomes w w′ pickedRow (On w u) → NextVertex w′ u 0 v → Struck w′ u w′ v
 struck-none {w} {w′} {u} {v} h b n =
     record {
       high = n .high;
@@ -88,10 +88,10 @@ module _ {w w₁ w₂ : List ℕ} {u v : ℕ} (h : v < u) (l : u < mostVertices)
         };
       }
 
-  pub struck-more : {q : ℕ} → Next w₂ u (v + 1) q → Struck w u w₂ q
+  pub struck-more : {q : ℕ} → NextVertex w₂ u (v + 1) q → Struck w u w₂ q
   struck-more {q} n′ = record { high = n .high; here = n .here; picked = becomes-as less-now (λ j _. (up j, free-sooner (omega (arith, n .low)))) }
     where
-      n : Next w u (v + 1) q
+      n : NextVertex w u (v + 1) q
       n = keeps-next (less-now .keeps) (λ e. omega arith) n′
 
       up : (y : ℕ) → Free w u (v + 1) y → Free w u (min u q) y
@@ -105,7 +105,7 @@ module _ {w w₁ w₂ : List ℕ} {u v : ℕ} (h : v < u) (l : u < mostVertices)
           }
 
   -- no vertex from u on is left
-  pub picks-none : {q : ℕ} → Next w₂ pickedRow u q → q ≡ mostVertices → Picks w u w₂
+  pub picks-none : {q : ℕ} → NextVertex w₂ pickedRow u q → q ≡ mostVertices → Picks w u w₂
   picks-none n e =
       record {
         keeps = less-now .keeps;

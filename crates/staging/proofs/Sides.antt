@@ -8,29 +8,29 @@ use Rattle.model.specs.Query.{ownerOf, hubOf}
 use Rattle.model.specs.Hubs.{Picked, EntryBy}
 use Rattle.model.proofs.Hubs.{picked-as}
 use Rattle.model.proofs.Renumber.{entry-fields}
-use Rattle.rows.specs.Rows.{Keeps, Step}
+use Rattle.rows.specs.Rows.{KeepsRows, Step}
 use Rattle.rows.proofs.Rows.{keeps-domain}
 use Rattle.staging.specs.Stage.{Stages, Unpicked, Stageable}
 use Rattle.staging.proofs.Adding.{stages-as, stages-over, stages-then}
 use Rattle.staging.proofs.Picking.{unpicked-steps, transits-as}
-use Rattle.staging.proofs.Passing.{Placed}
+use Rattle.staging.proofs.Passing.{Located}
 
 -- what is picked by the steps of a memory whose step rows are kept
-pub ins-same : {w w′ : List ℕ} {code : ℕ} → Keeps w w′ Unpicked → (e : ℕ) → Picked (Step w′) 1 code e ↔ Picked (Step w) 1 code e
+pub ins-same : {w w′ : List ℕ} {code : ℕ} → KeepsRows w w′ Unpicked → (e : ℕ) → Picked (Step w′) 1 code e ↔ Picked (Step w) 1 code e
 ins-same h e = let f = unpicked-steps h in (picked-as (λ a b. Iff·symm (f a b)), picked-as f)
 
-pub outs-same : {w w′ : List ℕ} {code : ℕ} → Keeps w w′ Unpicked → (e : ℕ) → Picked (λ u y. Step w′ y u) 0 code e ↔ Picked (λ u y. Step w y u) 0 code e
+pub outs-same : {w w′ : List ℕ} {code : ℕ} → KeepsRows w w′ Unpicked → (e : ℕ) → Picked (λ u y. Step w′ y u) 0 code e ↔ Picked (λ u y. Step w y u) 0 code e
 outs-same h e = let f = unpicked-steps h in (picked-as (λ a b. Iff·symm (f b a)), picked-as (λ a b. f b a))
 
 module _ {w : List ℕ} {d code slots cnt : ℕ} (p : Stageable w d code slots cnt) where
   -- the hub, or the owner, stands in the entry
-  pub hubs-placed : Placed w d (Picked (Step w) 1 code) hubOf
+  pub hubs-placed : Located w d (Picked (Step w) 1 code) hubOf
   hubs-placed = record { small = λ e x. omega (arith, hub-is e x, x .related .from); starts = λ e x. rw (hub-is e x) (p .domain .starts _ _ (x .related)) }
     where
       hub-is : (e : ℕ) (x : Picked (Step w) 1 code e) → hubOf e ≡ x .hub
       hub-is e x = let (_, _, q, _) = entry-fields 1 (x .owner) (x .hub) code (x .related .to) (x .related .from) (p .code-small) in ap hubOf (x .is) ∙ q
 
-  pub owners-placed : Placed w d (Picked (λ u y. Step w y u) 0 code) ownerOf
+  pub owners-placed : Located w d (Picked (λ u y. Step w y u) 0 code) ownerOf
   owners-placed =
       record { small = λ e x. omega (arith, owner-is e x, x .related .from); starts = λ e x. rw (owner-is e x) (p .domain .starts _ _ (x .related)) }
     where

@@ -6,14 +6,14 @@ use Prim.Native.Nat.{ℕ, _+_, _≤_, _<_}
 use lib.ListN.{length, getD}
 use Rattle.model.specs.Limits.{leastWork, hubUnit}
 use Rattle.rows.specs.Region.{workRows, pickedRow}
-use Rattle.rows.specs.Rows.{Keeps, Step, Domain}
+use Rattle.rows.specs.Rows.{KeepsRows, Step, Domain}
 
 -- the i-th number staged
 abbrev pub staged : List ℕ → ℕ → ℕ
 staged w i = getD w (leastWork + i) 0
 
 -- e is one of the staged numbers from k up to n
-pub record Stands (w : List ℕ) (k n e : ℕ) : Type 0 where
+pub record StagedAt (w : List ℕ) (k n e : ℕ) : Type 0 where
   pub i : ℕ
   pub low : k ≤ i
   pub high : i < n
@@ -28,18 +28,18 @@ pub record Different (w : List ℕ) (k n : ℕ) (Q : ℕ → Type 0) : Type 0 wh
 pub record Adds (w : List ℕ) (k n : ℕ) (Q : ℕ → Type 0) : Type 0 where
   pub more : k ≤ n
   pub different : Different w k n Q
-  pub all : (e : ℕ) → Q e → Stands w k n e
+  pub all : (e : ℕ) → Q e → StagedAt w k n e
 
 -- and there is one more
 pub record Over (w : List ℕ) (k n : ℕ) (Q : ℕ → Type 0) : Type 0 where
   pub different : Different w k n Q
   pub extra : ℕ
   pub is : Q extra
-  pub fresh : Stands w k n extra → ⊥
+  pub fresh : StagedAt w k n extra → ⊥
 
 -- the numbers of P are staged behind the first cnt: r numbers are staged then, or there are more than slots; the rows of K are kept
 pub record Stages (w : List ℕ) (K P : ℕ → Type 0) (slots cnt : ℕ) (w′ : List ℕ) (r : ℕ) : Type 0 where
-  pub keeps : Keeps w w′ K
+  pub keeps : KeepsRows w w′ K
   pub old : (i : ℕ) → i < cnt → staged w′ i ≡ staged w i
   pub done : r ≤ slots → Adds w′ cnt r P
   pub over : slots < r → Over w′ cnt slots P

@@ -6,7 +6,7 @@ use Prim.Native.Nat.{ℕ, _+_, _≤_, _<_}
 use lib.ListN.{length}
 use Rattle.model.specs.Limits.{mostVertices, leastWork, hubUnit}
 use Rattle.rows.specs.Region.{pickedRow}
-use Rattle.rows.specs.Rows.{On, Keeps, Step}
+use Rattle.rows.specs.Rows.{On, KeepsRows, Step}
 use Rattle.staging.specs.Stage.{Transits}
 
 -- s steps to y, and no vertex below n stands between the two
@@ -16,7 +16,7 @@ pub record Free (w : List ℕ) (s n y : ℕ) : Type 0 where
 
 -- row `picked` is, from vertex u on, the vertices to which u steps with none below u between, and nothing else changed
 pub record Picks (w : List ℕ) (u : ℕ) (w′ : List ℕ) : Type 0 where
-  pub keeps : Keeps w w′ (λ r. r ≢ pickedRow)
+  pub keeps : KeepsRows w w′ (λ r. r ≢ pickedRow)
   pub only : (y : ℕ) → u ≤ y → y < mostVertices → On w′ pickedRow y → Free w u u y
   pub all : (y : ℕ) → u ≤ y → Free w u u y → On w′ pickedRow y
 

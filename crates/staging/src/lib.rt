@@ -5,14 +5,24 @@ use model::MOST_VERTICES;
 use model::OWNER_UNIT;
 use model::SIDE_UNIT;
 use rows::PICKED;
+ghost use mathlib.Core.Path.{_≡_};
 ghost use Prim.Native.Nat.{_≤_, _<_};
 ghost use lib.ListN.{length};
-ghost use Rattle.model.specs.Limits.{mostVertices, leastWork};
+ghost use Rattle.model.specs.Limits.{mostVertices, leastWork, hubUnit};
+ghost use Rattle.model.specs.Entries.{entryOf};
 ghost use Rattle.model.specs.Query.{ownerOf, hubOf};
 ghost use Rattle.model.specs.Hubs.{Picked, EntryBy};
 ghost use Rattle.rows.specs.Rows.{Step};
 ghost use Rattle.staging.specs.Stage.{Stages, Unpicked, Stageable};
 ghost use Rattle.staging.specs.Vertex.{Picks, VertexStageable, Of};
+
+// The number of an entry.
+fn entry(side: u64, owner: usize, hub: usize, code: u64) -> u64
+    requires { ⌜ (side < 2) × ((owner < mostVertices) × ((hub < mostVertices) × (code < hubUnit))) ⌝ }
+    ensures { λ r. ⌜ r ≡ entryOf side owner hub code ⌝ }
+{
+    side * SIDE_UNIT + owner as u64 * OWNER_UNIT + hub as u64 * HUB_UNIT + code
+}
 
 // Makes row PICKED, from vertex u on, the owners of the entries with hub u: the row of u less that of each vertex before u in it.
 fn pick(w: &mut [u64], u: usize)
@@ -42,7 +52,7 @@ fn stage_hub(w: &mut [u64], u: usize, code: u64, slots: usize, cnt: usize) -> us
         if k == slots {
             return slots + 1;
         }
-        w[LEAST_WORK + k] = SIDE_UNIT + y as u64 * OWNER_UNIT + u as u64 * HUB_UNIT + code;
+        w[LEAST_WORK + k] = entry(1, y, u, code);
         k += 1;
         y = rows::next(w, PICKED, y + 1);
     }
@@ -81,7 +91,7 @@ fn stage_owner(w: &mut [u64], s: usize, code: u64, slots: usize, cnt: usize) -> 
         if n == slots {
             return slots + 1;
         }
-        w[LEAST_WORK + n] = s as u64 * OWNER_UNIT + u as u64 * HUB_UNIT + code;
+        w[LEAST_WORK + n] = entry(0, s, u, code);
         n += 1;
         rows::subtract(w, PICKED, PICKED, u);
         u = rows::next(w, PICKED, u + 1);

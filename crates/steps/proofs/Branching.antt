@@ -10,7 +10,7 @@ use Rattle.model.specs.Limits.{mostLabel}
 use Rattle.model.specs.Edges.{fromOf, labelOf, toOf}
 use Rattle.model.proofs.Edges.{edge-fields}
 use Rattle.model.proofs.Lists.{getD-in, in-getD}
-use Rattle.rows.specs.Rows.{On, Row, Keeps, Within, Becomes}
+use Rattle.rows.specs.Rows.{On, Row, KeepsRows, InRows, Becomes}
 use Rattle.rows.proofs.Rows.{row-as, keeps-none, keeps-then, keeps-cell, keeps-row}
 use Rattle.steps.specs.Steps.{Branches}
 use Rattle.steps.specs.Filling.{Clears}
@@ -26,7 +26,7 @@ pub record Into (w : List ℕ) (a c r x : ℕ) : Type 0 where
 -- the rows are the vertices that one of the first i edges leads from
 pub record Branching (edges w : List ℕ) (starts base : ℕ) (w′ : List ℕ) (i : ℕ) : Type 0 where
   pub most : i ≤ length edges
-  pub keeps : Keeps w w′ (λ r. Within base (base + mostLabel) r → ⊥)
+  pub keeps : KeepsRows w w′ (λ r. InRows base (base + mostLabel) r → ⊥)
   pub rows : (c : ℕ) → c < mostLabel → Row w′ (base + c) (λ a. SomeEdge edges i (Into w a (suc c) starts))
 
 module _ {edges w : List ℕ} {starts base : ℕ} {w′ : List ℕ} where
@@ -38,7 +38,7 @@ module _ {edges w : List ℕ} {starts base : ℕ} {w′ : List ℕ} where
         rows = λ c h. record { only = λ a k o. absurd (e .empty .none (base + c) a (within-at c h) k o); all = λ a k x. absurd (omega (arith, x .early)) };
       }
 
-  module _ {i : ℕ} (apart : Within base (base + mostLabel) starts → ⊥) (h : i < length edges) (g : Branching edges w starts base w′ i) where
+  module _ {i : ℕ} (apart : InRows base (base + mostLabel) starts → ⊥) (h : i < length edges) (g : Branching edges w starts base w′ i) where
     abbrev x : ℕ
     x = getD edges i 0
 
@@ -81,7 +81,7 @@ module _ {edges w : List ℕ} {starts base : ℕ} {w′ : List ℕ} where
           | no n ↦ row-as (λ a k. (inl, ⊎-elim (λ y. y) (λ y. absurd (n (y .label))))) (keeps-row (b .keeps) (λ e. n (omega arith)) (g .rows c h))
         ]
 
-  pub branch-all : {w₀ : List ℕ} {i : ℕ} → (Within base (base + mostLabel) starts → ⊥) → Clears w₀ w base mostLabel → length edges ≤ i → Branching edges w starts base w′ i
+  pub branch-all : {w₀ : List ℕ} {i : ℕ} → (InRows base (base + mostLabel) starts → ⊥) → Clears w₀ w base mostLabel → length edges ≤ i → Branching edges w starts base w′ i
       → Branches edges w₀ starts base w′
   branch-all apart e m g =
       record {

@@ -7,15 +7,15 @@ use native.Mathlib.Omega.{arith}
 use native.Mathlib.Decide.{ℕ-discrete, decLt}
 use lib.ListN.{length}
 use Rattle.model.specs.Limits.{mostVertices, leastWork}
-use Rattle.rows.specs.Rows.{On, Row, Keeps, Within, Empty, Becomes, Next}
+use Rattle.rows.specs.Rows.{On, Row, KeepsRows, InRows, Empty, Becomes, NextVertex}
 use Rattle.rows.proofs.Rows.{row-as, becomes-as, keeps-none, keeps-then, keeps-long, keeps-cell, keeps-row}
-use Rattle.steps.specs.Filling.{Via, Extendable, Fillable, Fills}
+use Rattle.steps.specs.Filling.{Via, Extendable, RowsFillable, FillsRows}
 use Rattle.steps.proofs.Kept.{within-at, keeps-one}
 use Rattle.steps.proofs.Runs.{via-kept}
 
 -- the rows of vertices below p are those of P, and those of the others are empty
 pub record Filling (base : ℕ) (P : ℕ → ℕ → Type 0) (w w′ : List ℕ) (p : ℕ) : Type 0 where
-  pub keeps : Keeps w w′ (λ r. Within base (base + mostVertices) r → ⊥)
+  pub keeps : KeepsRows w w′ (λ r. InRows base (base + mostVertices) r → ⊥)
   pub rows : (a : ℕ) → a < mostVertices → Row w′ (base + a) (λ t. (a < p) × P a t)
 
 module _ {base : ℕ} {P : ℕ → ℕ → Type 0} {w : List ℕ} where
@@ -52,24 +52,24 @@ module _ {base : ℕ} {P : ℕ → ℕ → Type 0} {w : List ℕ} where
         empty : (t : ℕ) → t < mostVertices → On w′ (base + p) t → ⊥
         empty t l o = omega (arith, g .rows p h .only t l o .0)
 
-    pub filling-all : mostVertices ≤ p → Fills base P w w′
+    pub filling-all : mostVertices ≤ p → FillsRows base P w w′
     filling-all m = record { keeps = g .keeps; rows = λ a h. row-as (λ t _. (λ x. x .1, λ x. (omega arith, x))) (g .rows a h) }
 
 -- ---- by the vertices of row `starts`
 
-module _ {edges w : List ℕ} {c from to starts : ℕ} (s : Fillable edges w c from to starts) where
+module _ {edges w : List ℕ} {c from to starts : ℕ} (s : RowsFillable edges w c from to starts) where
   -- the rows that are led to are not those that are filled
-  other : (b : ℕ) → b < mostVertices → Within to (to + mostVertices) (from + b) → ⊥
+  other : (b : ℕ) → b < mostVertices → InRows to (to + mostVertices) (from + b) → ⊥
   other b h a = s .apart (from + b - to) b (omega (arith, a .least, a .most)) h (omega (arith, a .least))
 
-  abbrev pub Led : ℕ → ℕ → Type 0
-  Led a t = Via edges w from a c t
+  abbrev pub ViaLabel : ℕ → ℕ → Type 0
+  ViaLabel a t = Via edges w from a c t
 
-  module _ {w′ : List ℕ} {p : ℕ} (g : Filling to Led w w′ p) where
+  module _ {w′ : List ℕ} {p : ℕ} (g : Filling to ViaLabel w w′ p) where
     pub filling-long : leastWork ≤ length w′
     filling-long = keeps-long (g .keeps) (s .long)
 
-    pub filling-next : {q : ℕ} → Next w′ starts p q → Filling to Led w w′ q
+    pub filling-next : {q : ℕ} → NextVertex w′ starts p q → Filling to ViaLabel w w′ q
     filling-next n = filling-pass g (n .low) (λ a t h k l m x.
         n .gap a l m (keeps-cell (g .keeps) starts (λ x. omega (arith, x .most, s .to-rows, s .starts-least)) a h ∙ s .sources a t h k x))
 
@@ -85,6 +85,6 @@ module _ {edges w : List ℕ} {c from to starts : ℕ} (s : Fillable edges w c f
         }
 
     pub filling-extend : {w″ : List ℕ} → p < mostVertices → Becomes w′ w″ (to + p) (λ t. On w′ (to + p) t ⊎ Via edges w′ from p c t)
-        → Filling to Led w w″ (p + 1)
+        → Filling to ViaLabel w w″ (p + 1)
     filling-extend h b =
         filling-more g h (becomes-as b (λ t k. (⊎-map (λ o. o) (via-kept (g .keeps) other k .0), ⊎-map (λ o. o) (via-kept (g .keeps) other k .1))))

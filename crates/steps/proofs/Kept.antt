@@ -6,15 +6,15 @@ use Prim.Native.Nat.{ℕ, _+_, _<_}
 use native.Mathlib.Omega.{arith}
 use native.Mathlib.Decide.{ℕ-discrete}
 use Rattle.model.specs.Limits.{mostVertices}
-use Rattle.rows.specs.Rows.{On, Keeps, Within, Becomes}
+use Rattle.rows.specs.Rows.{On, KeepsRows, InRows, Becomes}
 use Rattle.rows.proofs.Rows.{keeps-none, keeps-as, keeps-then, keeps-cell}
 use Rattle.steps.specs.Filling.{Clears}
 
-pub within-at : {base n : ℕ} (c : ℕ) → c < n → Within base (base + n) (base + c)
+pub within-at : {base n : ℕ} (c : ℕ) → c < n → InRows base (base + n) (base + c)
 within-at c h = record { least = omega arith; most = omega arith }
 
 -- one of n rows is written
-pub keeps-one : {w w′ : List ℕ} {base n c : ℕ} {P : ℕ → Type 0} → c < n → Becomes w w′ (base + c) P → Keeps w w′ (λ r. Within base (base + n) r → ⊥)
+pub keeps-one : {w w′ : List ℕ} {base n c : ℕ} {P : ℕ → Type 0} → c < n → Becomes w w′ (base + c) P → KeepsRows w w′ (λ r. InRows base (base + n) r → ⊥)
 keeps-one {c = c} h b = keeps-as (λ r x e. x (rw e (within-at c h))) (b .keeps)
 
 -- ---- rows emptied one after another

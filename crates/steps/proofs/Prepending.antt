@@ -9,25 +9,25 @@ use Rattle.model.specs.Lists.{_∈_}
 use Rattle.model.specs.Limits.{mostVertices, mostLabel, leastWork}
 use Rattle.model.proofs.Lists.{getD-in}
 use Rattle.rows.specs.Region.{parentRows, savedRows, childRows}
-use Rattle.rows.specs.Rows.{On, Row, Keeps, Within}
+use Rattle.rows.specs.Rows.{On, Row, KeepsRows, InRows}
 use Rattle.rows.proofs.Rows.{row-as, keeps-none, keeps-as, keeps-then, keeps-long, keeps-cell, keeps-row}
 use Rattle.steps.specs.Steps.{Trail, Word, sourceRow, Sources, FillsParent}
-use Rattle.steps.specs.Filling.{Clears, Via, Fillable, Fills}
+use Rattle.steps.specs.Filling.{Clears, Via, RowsFillable, FillsRows}
 use Rattle.steps.proofs.Trails.{trail-none, trail-edge}
 
 -- the rows from `from` on are where the labels from number i on lead; they are the parent's at even numbers, and the step rows at odd ones
 pub record Prepending (edges l w w′ : List ℕ) (from i : ℕ) : Type 0 where
   pub most : i ≤ length l
   pub half : from ≡ parentRows - i % 2 * mostVertices
-  pub keeps : Keeps w w′ (λ r. savedRows ≤ r)
+  pub keeps : KeepsRows w w′ (λ r. savedRows ≤ r)
   pub rows : (a : ℕ) → a < mostVertices → Row w′ (from + a) (Trail edges a (drop i l))
 
 -- the step rows and the parent's lie before the others
-pub halves-keep : {w w′ : List ℕ} {base : ℕ} → base ≤ parentRows → Keeps w w′ (λ r. Within base (base + mostVertices) r → ⊥) → Keeps w w′ (λ r. savedRows ≤ r)
+pub halves-keep : {w w′ : List ℕ} {base : ℕ} → base ≤ parentRows → KeepsRows w w′ (λ r. InRows base (base + mostVertices) r → ⊥) → KeepsRows w w′ (λ r. savedRows ≤ r)
 halves-keep h = keeps-as (λ r x a. omega (arith, a .most))
 
 module _ {edges l w w′ : List ℕ} where
-  pub prepending-none : {from : ℕ} → from ≡ parentRows - length l % 2 * mostVertices → Fills from (λ a t. t ≡ a) w w′ → Prepending edges l w′ w′ from (length l)
+  pub prepending-none : {from : ℕ} → from ≡ parentRows - length l % 2 * mostVertices → FillsRows from (λ a t. t ≡ a) w w′ → Prepending edges l w′ w′ from (length l)
   prepending-none h f =
       record {
         most = omega arith;
@@ -50,7 +50,7 @@ module _ {edges l w w′ : List ℕ} where
           rows = λ a k. keeps-row (c .keeps) (λ x. omega (arith, x .least, x .most, g .half)) (g .rows a k);
         }
 
-    module _ {w₀ : List ℕ} {i : ℕ} (word : Word l) (s : Sources edges l w₀) (e : Keeps w₀ w (λ r. savedRows ≤ r)) (here : 0 < j) (is : i ≡ j - 1) where
+    module _ {w₀ : List ℕ} {i : ℕ} (word : Word l) (s : Sources edges l w₀) (e : KeepsRows w₀ w (λ r. savedRows ≤ r)) (here : 0 < j) (is : i ≡ j - 1) where
       inside : i < length l
       inside = omega (arith, g .most)
 
@@ -72,7 +72,7 @@ module _ {edges l w w′ : List ℕ} where
       prepending-long = keeps-long (g .keeps) (keeps-long e (s .long))
 
       pub prepending-fillable : {v : List ℕ} {label to starts : ℕ} → label ≡ getD l i 0 → to ≡ parentRows - from
-          → starts ≡ childRows + mostLabel * (length l - 1 - i) + getD l i 0 - 1 → Clears v w′ to mostVertices → Fillable edges w′ label from to starts
+          → starts ≡ childRows + mostLabel * (length l - 1 - i) + getD l i 0 - 1 → Clears v w′ to mostVertices → RowsFillable edges w′ label from to starts
       prepending-fillable {label = label} {to = to} {starts = starts} c h r z =
           record {
             long = prepending-long;
@@ -92,7 +92,7 @@ module _ {edges l w w′ : List ℕ} where
           on : (a : ℕ) → a < mostVertices → (t : ℕ) → Trail edges a (drop i l) t → On w′ (sourceRow l i) a
           on a k t p = keeps-cell (keeps-then e (g .keeps)) (sourceRow l i) (omega arith) a k ∙ s .all i a t inside k p
 
-      pub prepending-more : {w″ : List ℕ} {label to : ℕ} → label ≡ getD l i 0 → to ≡ parentRows - from → Fills to (λ a t. Via edges w′ from a label t) w′ w″
+      pub prepending-more : {w″ : List ℕ} {label to : ℕ} → label ≡ getD l i 0 → to ≡ parentRows - from → FillsRows to (λ a t. Via edges w′ from a label t) w′ w″
           → Prepending edges l w w″ to i
       prepending-more {to = to} c h f =
           record {
@@ -109,7 +109,7 @@ module _ {edges l w w′ : List ℕ} where
               let f : from ≡ parentRows - (i + 1) % 2 * mostVertices = subst (λ (k : ℕ). from ≡ parentRows - k % 2 * mostVertices) n (g .half) in
               omega (arith, parity, f)
 
-    pub prepending-all : {w₀ w″ : List ℕ} → Keeps w₀ w (λ r. savedRows ≤ r) → j ≤ 0 → Clears w′ w″ 0 mostVertices → FillsParent edges l w₀ w″
+    pub prepending-all : {w₀ w″ : List ℕ} → KeepsRows w₀ w (λ r. savedRows ≤ r) → j ≤ 0 → Clears w′ w″ 0 mostVertices → FillsParent edges l w₀ w″
     prepending-all {w₀} {w″} e none z =
         record {
           keeps = keeps-then e (keeps-then (g .keeps) (halves-keep (omega arith) (z .keeps)));
@@ -124,11 +124,11 @@ module _ {edges l w w′ : List ℕ} where
             let whole = subst (λ (k : ℕ). Row w′ (from + a) (Trail edges a (drop k l))) n (g .rows a h) in
             keeps-row (z .keeps) (λ x. omega (arith, x .most)) (subst (λ (r : ℕ). Row w′ (r + a) (Trail edges a l)) q whole)
 
--- ---- the endings' rows, for callers
+-- ---- the suffixes' rows, for callers
 
--- one label more has a row of its own, and the rows of the other endings are kept
+-- one label more has a row of its own, and the rows of the other suffixes are kept
 pub sources-more : {edges l w w′ : List ℕ} {c : ℕ} → Sources edges l w → ((x : ℕ) → x ∈ l → (1 ≤ x) × (x ≤ mostLabel))
-    → Keeps w w′ (Within savedRows (childRows + mostLabel * length l))
+    → KeepsRows w w′ (InRows savedRows (childRows + mostLabel * length l))
     → ((a t : ℕ) → a < mostVertices → Trail edges a (suc c ∷ l) t → On w′ (childRows + mostLabel * length l + c) a) → Sources edges (suc c ∷ l) w′
 sources-more {edges} {l} {w} {w′} {c} s labels kept first = record { long = keeps-long kept (s .long); all = all }
   where

@@ -12,7 +12,7 @@ use Rattle.model.specs.Limits.{mostVertices, fromUnit, labelUnit}
 use Rattle.model.proofs.Lists.{getD-in, in-getD, rising-le}
 use Rattle.edges.specs.Slots.{Skipped}
 use Rattle.edges.proofs.Slots.{skipped-least}
-use Rattle.rows.specs.Rows.{cell, On, Keeps, Becomes}
+use Rattle.rows.specs.Rows.{cell, On, KeepsRows, Becomes}
 use Rattle.rows.proofs.Rows.{becomes-as, keeps-cell}
 use Rattle.steps.specs.Filling.{Via, Extendable}
 use Rattle.steps.proofs.Kept.{gains-none, gains-more}
@@ -101,7 +101,7 @@ module _ {edges w w′ : List ℕ} {c base r s i : ℕ} (g : Running edges w c b
           ]
 
 -- rows that are kept lead where they did
-pub via-kept : {edges w w′ : List ℕ} {K : ℕ → Type 0} {base a c t : ℕ} → Keeps w w′ K → ((b : ℕ) → b < mostVertices → K (base + b)) → t < mostVertices
+pub via-kept : {edges w w′ : List ℕ} {K : ℕ → Type 0} {base a c t : ℕ} → KeepsRows w w′ K → ((b : ℕ) → b < mostVertices → K (base + b)) → t < mostVertices
     → Via edges w′ base a c t ↔ Via edges w base a c t
 via-kept {base = base} {t = t} h f k = (
   λ x. record { b = x .b; small = x .small; stands = x .stands; on = sym (keeps-cell h (base + x .b) (f (x .b) (x .small)) t k) ∙ x .on },

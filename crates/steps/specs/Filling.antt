@@ -7,16 +7,16 @@ use Rattle.model.specs.Lists.{_∈_}
 use Rattle.model.specs.Limits.{mostVertices, mostLabel, leastWork}
 use Rattle.model.specs.Edges.{edgeNumber}
 use Rattle.rows.specs.Region.{workRows, savedRows}
-use Rattle.rows.specs.Rows.{On, Row, Keeps, Within, Empty}
+use Rattle.rows.specs.Rows.{On, Row, KeepsRows, InRows, Empty}
 
 -- the n rows from base on are emptied
 pub record Clears (w w′ : List ℕ) (base n : ℕ) : Type 0 where
-  pub keeps : Keeps w w′ (λ r. Within base (base + n) r → ⊥)
+  pub keeps : KeepsRows w w′ (λ r. InRows base (base + n) r → ⊥)
   pub empty : Empty w′ base n
 
 -- row base + a is then the vertices of P a, for every vertex a
-pub record Fills (base : ℕ) (P : ℕ → ℕ → Type 0) (w w′ : List ℕ) : Type 0 where
-  pub keeps : Keeps w w′ (λ r. Within base (base + mostVertices) r → ⊥)
+pub record FillsRows (base : ℕ) (P : ℕ → ℕ → Type 0) (w w′ : List ℕ) : Type 0 where
+  pub keeps : KeepsRows w w′ (λ r. InRows base (base + mostVertices) r → ⊥)
   pub rows : (a : ℕ) → a < mostVertices → Row w′ (base + a) (P a)
 
 -- empty rows
@@ -43,7 +43,7 @@ pub record Extendable (w : List ℕ) (c base r s : ℕ) : Type 0 where
 
 -- the rows from `to` on are empty and none of those from `from` on, and row `starts` has every vertex that leads anywhere by label c and
 -- these
-pub record Fillable (edges w : List ℕ) (c from to starts : ℕ) : Type 0 where
+pub record RowsFillable (edges w : List ℕ) (c from to starts : ℕ) : Type 0 where
   pub long : leastWork ≤ length w
   pub label : c ≤ mostLabel
   pub from-rows : from + mostVertices ≤ savedRows

@@ -7,7 +7,7 @@ use Rattle.model.specs.Limits.{mostVertices, mostLabel, mostLongest, leastWork}
 use Rattle.model.specs.Edges.{edgeNumber, fromOf, labelOf}
 use Rattle.edges.specs.Slots.{Starts}
 use Rattle.rows.specs.Region.{workRows, stepRows, parentRows, savedRows, childRows}
-use Rattle.rows.specs.Rows.{On, Row, Keeps, Within, Empty}
+use Rattle.rows.specs.Rows.{On, Row, KeepsRows, InRows, Empty}
 
 -- rising edges that start at vertices and have labels
 pub record Edged (edges : List ℕ) : Type 0 where
@@ -45,7 +45,7 @@ pub record Parent (edges l w : List ℕ) : Type 0 where
 
 -- the parent's rows are filled, and the step rows empty
 pub record FillsParent (edges l w w′ : List ℕ) : Type 0 where
-  pub keeps : Keeps w w′ (λ r. savedRows ≤ r)
+  pub keeps : KeepsRows w w′ (λ r. savedRows ≤ r)
   pub quiet : Empty w′ stepRows mostVertices
   pub parent : Parent edges l w′
 
@@ -61,9 +61,9 @@ pub record Branchable (w : List ℕ) (starts base : ℕ) : Type 0 where
   pub long : leastWork ≤ length w
   pub starts-row : starts < workRows
   pub base-row : base + mostLabel ≤ workRows
-  pub apart : Within base (base + mostLabel) starts → ⊥
+  pub apart : InRows base (base + mostLabel) starts → ⊥
 
 -- they are the vertices with an edge of each label into row `starts`
 pub record Branches (edges w : List ℕ) (starts base : ℕ) (w′ : List ℕ) : Type 0 where
-  pub keeps : Keeps w w′ (λ r. Within base (base + mostLabel) r → ⊥)
+  pub keeps : KeepsRows w w′ (λ r. InRows base (base + mostLabel) r → ⊥)
   pub rows : (c : ℕ) → c < mostLabel → Row w′ (base + c) (λ a. Enters edges w a (suc c) starts)

@@ -11,7 +11,7 @@ ghost use Rattle.model.specs.Limits.{mostVertices, mostLabel, leastWork};
 ghost use Rattle.rows.specs.Region.{workRows};
 ghost use Rattle.rows.specs.Rows.{On, Becomes};
 ghost use Rattle.steps.specs.Steps.{Edged, Slotted, Word, Sources, FillsParent, Branchable, Branches};
-ghost use Rattle.steps.specs.Filling.{Clears, IdentityFillable, Via, Extendable, Fillable, Fills};
+ghost use Rattle.steps.specs.Filling.{Clears, IdentityFillable, Via, Extendable, RowsFillable, FillsRows};
 
 // Empties the n rows from `base` on.
 fn clear_rows(w: &mut [u64], base: usize, n: usize)
@@ -28,7 +28,7 @@ fn clear_rows(w: &mut [u64], base: usize, n: usize)
 // Makes row base + a, for every vertex a, a alone: the empty word leads from a vertex to itself. The rows were empty.
 fn fill_identity(w: &mut [u64], base: usize)
     requires { ⌜ IdentityFillable (now w) base ⌝ }
-    ensures { λ _. ⌜ Fills base (λ a t. t ≡ a) (now (w .entry)) (now (w .exit)) ⌝ }
+    ensures { λ _. ⌜ FillsRows base (λ a t. t ≡ a) (now (w .entry)) (now (w .exit)) ⌝ }
 {
     let mut a = 0;
     while a < MOST_VERTICES {
@@ -78,9 +78,9 @@ pub fn fill(
     to: usize,
     starts: usize,
 )
-    requires { ⌜ Slotted (now edges) (now slots) × Fillable (now edges) (now w) label from to starts ⌝ }
+    requires { ⌜ Slotted (now edges) (now slots) × RowsFillable (now edges) (now w) label from to starts ⌝ }
     ensures { λ _. ⌜
-        Fills to (λ a t. Via (now (edges .entry)) (now (w .entry)) from a label t) (now (w .entry)) (now (w .exit))
+        FillsRows to (λ a t. Via (now (edges .entry)) (now (w .entry)) from a label t) (now (w .entry)) (now (w .exit))
         ⌝ }
 {
     let mut s = rows::next(w, starts, 0);
@@ -91,7 +91,7 @@ pub fn fill(
 }
 
 // Makes row a of the parent's rows, for every vertex a, the vertices to which the word leads from a, label by label from its end: the step
-// rows and the parent's take turns, so that the last label fills the parent's. The step rows are empty afterwards. Every ending of the word
+// rows and the parent's take turns, so that the last label fills the parent's. The step rows are empty afterwards. Every suffix of the word
 // has its child row.
 pub fn fill_parent(edges: &[u32], slots: &[usize], word: &[u8], w: &mut [u64])
     requires { ⌜ Slotted (now edges) (now slots) × (Word (now word) × Sources (now edges) (now word) (now w)) ⌝ }

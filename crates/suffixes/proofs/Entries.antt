@@ -22,7 +22,7 @@ use Rattle.model.proofs.Walks.{runs-to}
 use Rattle.model.proofs.Patterns.{code-below, code-inj}
 use Rattle.model.proofs.Hubs.{entry-by-as, pattern-by, entry-pattern, OfPattern, runs-from}
 use Rattle.model.proofs.Suffixes.{all-beyond}
-use Rattle.rows.specs.Rows.{Next}
+use Rattle.rows.specs.Rows.{NextVertex}
 use Rattle.rows.proofs.Rows.{next-none}
 use Rattle.steps.specs.Steps.{Trail}
 use Rattle.steps.proofs.Trails.{trail-cut, trail-to, trail-spells, spells-trail}
@@ -72,7 +72,7 @@ module _ {edges : List ℕ} (w : List ℕ) (dead : (a t : ℕ) → a < mostVerti
   no-entry v e (EntryBy.into p) = no-plus v (p .related)
 
 -- if the row of one label more is empty
-pub child-none : {edges word w : List ℕ} {base c q : ℕ} → Children edges word w base → c < mostLabel → Next w (base + c) 0 q → q ≡ mostVertices
+pub child-none : {edges word w : List ℕ} {base c q : ℕ} → Children edges word w base → c < mostLabel → NextVertex w (base + c) 0 q → q ≡ mostVertices
     → (v : List ℕ) (e : ℕ) → PatternEntry edges (v ++ suc c ∷ word) e → ⊥
 child-none {word = word} {c = c} f h n e = no-entry (suc c ∷ word) (λ a t k trail. next-none n refl e a k (f .all c a t h k trail))
 

@@ -14,7 +14,7 @@ use Rattle.model.proofs.Tests.{test-yields, test-fails}
 use Rattle.model.proofs.Patterns.{test-own, code-below}
 use Rattle.model.proofs.Hubs.{entry-by-as}
 use Rattle.model.proofs.Suffixes.{some-none, some-up, some-more, leaves-apart}
-use Rattle.rows.specs.Rows.{Next}
+use Rattle.rows.specs.Rows.{NextVertex}
 use Rattle.rows.proofs.Rows.{keeps-cell, keeps-row}
 use Rattle.steps.proofs.Trails.{trail-edge, edge-trail}
 use Rattle.closure.specs.Closing.{Plus}
@@ -33,7 +33,7 @@ module _ {edges slots digits w : List ℕ} {d longest room cnt c : ℕ} (l : Lea
   leaf-none n = record { stages = stages-none (l .count) n; quiet = l .quiet }
 
   -- ---- no vertex from which the pattern can be spelled
-  pub leaf-empty : {q : ℕ} → Next w (baseOf d + c) 0 q → q ≡ mostVertices → PatternStages w (Leaf longest (PatternEntry edges) word c) room cnt w cnt
+  pub leaf-empty : {q : ℕ} → NextVertex w (baseOf d + c) 0 q → q ≡ mostVertices → PatternStages w (Leaf longest (PatternEntry edges) word c) room cnt w cnt
   leaf-empty h e = leaf-none (λ x p. child-none (l .children) small h e [] x (p .holds))
 
   -- ---- the pattern
@@ -107,13 +107,13 @@ module _ {edges slots digits w : List ℕ} {d longest room cnt c : ℕ} (l : Lea
 
 module _ {edges slots digits w : List ℕ} {d longest room cnt : ℕ} (l : LeafStageable edges slots digits w d longest room cnt) where
   -- the entries with one of the first c labels before the word
-  abbrev pub Leaves : ℕ → ℕ → Type 0
-  Leaves c = Some c (Leaf longest (PatternEntry edges) (wordOf digits d))
+  abbrev pub LeafEntries : ℕ → ℕ → Type 0
+  LeafEntries c = Some c (Leaf longest (PatternEntry edges) (wordOf digits d))
 
-  pub leaves-none : PatternStages w (Leaves 0) room cnt w cnt
+  pub leaves-none : PatternStages w (LeafEntries 0) room cnt w cnt
   leaves-none = record { stages = stages-none (l .count) some-none; quiet = l .quiet }
 
-  module _ {w′ : List ℕ} {c n : ℕ} (v : PatternStages w (Leaves c) room cnt w′ n) where
+  module _ {w′ : List ℕ} {c n : ℕ} (v : PatternStages w (LeafEntries c) room cnt w′ n) where
     -- the rows that staging needs are kept
     pub leaves-stageable : n ≤ room → LeafStageable edges slots digits w′ d longest room n
     leaves-stageable h =
@@ -131,7 +131,7 @@ module _ {edges slots digits w : List ℕ} {d longest room cnt : ℕ} (l : LeafS
         }
 
     pub leaves-more : n ≤ room → {w″ : List ℕ} {r : ℕ} → PatternStages w′ (Leaf longest (PatternEntry edges) (wordOf digits d) c) room n w″ r
-        → PatternStages w (Leaves (c + 1)) room cnt w″ r
+        → PatternStages w (LeafEntries (c + 1)) room cnt w″ r
     leaves-more h f =
         record {
           stages = stages-as (stages-then (v .stages) h (leaves-apart (one-pattern (l .chosen .most)) (wordOf digits d) c) (f .stages)) (some-more c);
@@ -139,8 +139,8 @@ module _ {edges slots digits w : List ℕ} {d longest room cnt : ℕ} (l : LeafS
         }
 
     -- more than fit, with the labels that were not tried yet too
-    pub leaves-over : c ≤ mostLabel → room < n → PatternStages w (Leaves mostLabel) room cnt w′ n
+    pub leaves-over : c ≤ mostLabel → room < n → PatternStages w (LeafEntries mostLabel) room cnt w′ n
     leaves-over h k = record { stages = stages-over (v .stages) k (λ e. some-up h); quiet = v .quiet }
 
-    pub leaves-all : c ≤ mostLabel → mostLabel ≤ c → PatternStages w (Leaves mostLabel) room cnt w′ n
-    leaves-all h k = let e : c ≡ mostLabel = omega arith in subst (λ (m : ℕ). PatternStages w (Leaves m) room cnt w′ n) e v
+    pub leaves-all : c ≤ mostLabel → mostLabel ≤ c → PatternStages w (LeafEntries mostLabel) room cnt w′ n
+    leaves-all h k = let e : c ≡ mostLabel = omega arith in subst (λ (m : ℕ). PatternStages w (LeafEntries m) room cnt w′ n) e v

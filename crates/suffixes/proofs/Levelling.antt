@@ -8,7 +8,7 @@ use lib.Seq.{take-all}
 use Rattle.model.specs.Limits.{mostVertices, mostLabel, mostLongest}
 use Rattle.model.specs.Suffixes.{Leaf, Some}
 use Rattle.rows.specs.Region.{savedRows, openRow}
-use Rattle.rows.specs.Rows.{On, Within}
+use Rattle.rows.specs.Rows.{On, InRows}
 use Rattle.rows.proofs.Rows.{keeps-cell, keeps-row, keeps-empty}
 use Rattle.steps.specs.Steps.{Trail, Word, Sources, FillsParent, Branchable, Branches}
 use Rattle.steps.proofs.Trails.{trail-edge}
@@ -83,8 +83,8 @@ module _ {edges slots digits w : List ℕ} {d starts longest room cnt : ℕ} (n 
           deep : baseOf d + mostLabel ≤ openRow
           deep = omega (arith, n .chosen .more, n .chosen .most)
 
-          within : Stages w₂ (Within savedRows (baseOf d)) (Some mostLabel (Leaf longest (PatternEntry edges) word)) room cnt w₃ r
+          within : Stages w₂ (InRows savedRows (baseOf d)) (Some mostLabel (Leaf longest (PatternEntry edges) word)) room cnt w₃ r
           within = stages-within (v .stages) (λ q x. record { least = omega (arith, x .least); most = omega (arith, x .most, deep) })
 
-          branched : Stages w₁ (Within savedRows (baseOf d)) (Some mostLabel (Leaf longest (PatternEntry edges) word)) room cnt w₃ r
+          branched : Stages w₁ (InRows savedRows (baseOf d)) (Some mostLabel (Leaf longest (PatternEntry edges) word)) room cnt w₃ r
           branched = stages-since within (b .keeps) (λ q x y. omega (arith, x .most, y .least)) (λ q l y. omega (arith, y .most, deep))

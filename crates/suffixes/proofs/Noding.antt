@@ -8,7 +8,7 @@ use Rattle.model.specs.Limits.{mostVertices, mostLabel}
 use Rattle.model.specs.Suffixes.{Beyond, Leaf, Branch, Some}
 use Rattle.model.proofs.Suffixes.{some-none, some-up, some-more, beyond-parts, beyond-long, beyond-none, branches-apart, parts-apart}
 use Rattle.rows.specs.Region.{savedRows, childRows}
-use Rattle.rows.specs.Rows.{Keeps, Within, Next}
+use Rattle.rows.specs.Rows.{KeepsRows, InRows, NextVertex}
 use Rattle.rows.proofs.Rows.{keeps-then, keeps-cell}
 use Rattle.steps.specs.Steps.{Sources}
 use Rattle.steps.proofs.Prepending.{sources-more}
@@ -32,29 +32,29 @@ module _ {edges slots digits w₀ : List ℕ} {d starts longest room cnt : ℕ} 
   abbrev word : List ℕ
   word = wordOf digits d
 
-  abbrev All : ℕ → Type 0
-  All = Beyond longest (PatternEntry edges) word
+  abbrev WithAny : ℕ → Type 0
+  WithAny = Beyond longest (PatternEntry edges) word
 
-  abbrev First : ℕ → Type 0
-  First = Some mostLabel (Leaf longest (PatternEntry edges) word)
+  abbrev WithOne : ℕ → Type 0
+  WithOne = Some mostLabel (Leaf longest (PatternEntry edges) word)
 
-  abbrev Further : ℕ → ℕ → Type 0
-  Further c = Some c (Branch longest (PatternEntry edges) word)
+  abbrev WithMore : ℕ → ℕ → Type 0
+  WithMore c = Some c (Branch longest (PatternEntry edges) word)
 
   -- ---- no child is tried
 
   -- there is no room
-  pub node-full : room < n₁ → Stages w₀ (Within savedRows (baseOf d)) All room cnt w₁ n₁
+  pub node-full : room < n₁ → Stages w₀ (InRows savedRows (baseOf d)) WithAny room cnt w₁ n₁
   node-full h = stages-over (v .stages) h (λ e s. beyond-parts word e .0 (inl s))
 
   -- no pattern has more labels
-  pub node-short : longest ≤ d + 1 → Stages w₀ (Within savedRows (baseOf d)) All room cnt w₁ n₁
+  pub node-short : longest ≤ d + 1 → Stages w₀ (InRows savedRows (baseOf d)) WithAny room cnt w₁ n₁
   node-short h = stages-as (v .stages) (λ e. (
     λ s. beyond-parts word e .0 (inl s),
     λ b. ⊎-elim (λ s. s) (λ s. absurd (none e s)) (beyond-parts word e .1 b),
   ))
     where
-      none : (e : ℕ) → Further mostLabel e → ⊥
+      none : (e : ℕ) → WithMore mostLabel e → ⊥
       none e s = beyond-long (suc (s .which) ∷ word) e (omega (arith, word-length (p .chosen))) (s .holds)
 
   -- ---- child by child
@@ -64,19 +64,19 @@ module _ {edges slots digits w₀ : List ℕ} {d starts longest room cnt : ℕ} 
 
     module _ {w : List ℕ} {n c : ℕ} (g : Going edges digits w₁ d longest room n₁ w n c) where
       -- both together
-      both : Stages w₀ (Within savedRows (baseOf d)) (λ e. First e ⊎ Further c e) room cnt w n
+      both : Stages w₀ (InRows savedRows (baseOf d)) (λ e. WithOne e ⊎ WithMore c e) room cnt w n
       both = stages-then (v .stages) room-left (parts-apart (one-pattern (p .chosen .most)) word mostLabel c) (g .stages)
 
-      pub node-over : c ≤ mostLabel → room < n → Stages w₀ (Within savedRows (baseOf d)) All room cnt w n
+      pub node-over : c ≤ mostLabel → room < n → Stages w₀ (InRows savedRows (baseOf d)) WithAny room cnt w n
       node-over h k = stages-over both k (λ e s. beyond-parts word e .0 (⊎-map (λ a. a) (some-up h) s))
 
-      pub node-all : c ≤ mostLabel → mostLabel ≤ c → Stages w₀ (Within savedRows (baseOf d)) All room cnt w n
+      pub node-all : c ≤ mostLabel → mostLabel ≤ c → Stages w₀ (InRows savedRows (baseOf d)) WithAny room cnt w n
       node-all h k =
           let e : c ≡ mostLabel = omega arith in
-          stages-as (subst (λ (m : ℕ). Stages w₀ (Within savedRows (baseOf d)) (λ x. First x ⊎ Further m x) room cnt w n) e both) (beyond-parts word)
+          stages-as (subst (λ (m : ℕ). Stages w₀ (InRows savedRows (baseOf d)) (λ x. WithOne x ⊎ WithMore m x) room cnt w n) e both) (beyond-parts word)
 
       -- a child from which nothing can be spelled
-      pub going-skip : {q : ℕ} → c < mostLabel → Next w (baseOf d + c) 0 q → mostVertices ≤ q → Going edges digits w₁ d longest room n₁ w n (c + 1)
+      pub going-skip : {q : ℕ} → c < mostLabel → NextVertex w (baseOf d + c) 0 q → mostVertices ≤ q → Going edges digits w₁ d longest room n₁ w n (c + 1)
       going-skip {q} h x l =
           record {
             stages = stages-as (g .stages) (λ e. (
@@ -94,7 +94,7 @@ module _ {edges slots digits w₀ : List ℕ} {d starts longest room cnt : ℕ} 
         next-word : wordOf next d′ ≡ suc c ∷ word
         next-word = rw q (f .word)
 
-        since : Keeps w₀ w (Within savedRows (baseOf d))
+        since : KeepsRows w₀ w (InRows savedRows (baseOf d))
         since = keeps-then (v .stages .keeps) (g .stages .keeps)
 
         pub child-node : d + 1 < longest → NodeStageable edges slots next w d′ (baseOf d + c) longest room n
@@ -117,7 +117,7 @@ module _ {edges slots digits w₀ : List ℕ} {d starts longest room cnt : ℕ} 
                 (rw (word-length (p .chosen)) since)
                 (λ a t k trail. rw (word-length (p .chosen)) (g .children .all c a t h k trail))
 
-        pub going-more : {w′ : List ℕ} {r : ℕ} → Stages w (Within savedRows (baseOf d′)) (Beyond longest (PatternEntry edges) (wordOf next d′)) room n w′ r
+        pub going-more : {w′ : List ℕ} {r : ℕ} → Stages w (InRows savedRows (baseOf d′)) (Beyond longest (PatternEntry edges) (wordOf next d′)) room n w′ r
             → Going edges digits w₁ d longest room n₁ w′ r (c + 1)
         going-more {w′} {r} z =
             record {
@@ -128,7 +128,7 @@ module _ {edges slots digits w₀ : List ℕ} {d starts longest room cnt : ℕ} 
               };
             }
           where
-            branch : Stages w (Within savedRows (baseOf d)) (Branch longest (PatternEntry edges) word c) room n w′ r
+            branch : Stages w (InRows savedRows (baseOf d)) (Branch longest (PatternEntry edges) word c) room n w′ r
             branch = stages-within
-                (subst (λ (l : List ℕ). Stages w (Within savedRows (baseOf d′)) (Beyond longest (PatternEntry edges) l) room n w′ r) next-word z)
+                (subst (λ (l : List ℕ). Stages w (InRows savedRows (baseOf d′)) (Beyond longest (PatternEntry edges) l) room n w′ r) next-word z)
                 (λ r x. record { least = x .least; most = omega (arith, x .most) })

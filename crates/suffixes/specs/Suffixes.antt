@@ -8,7 +8,7 @@ use Rattle.model.specs.Limits.{mostVertices, mostLabel, mostLongest, leastWork}
 use Rattle.model.specs.Patterns.{code}
 use Rattle.model.specs.Hubs.{EntryBy}
 use Rattle.rows.specs.Region.{stepRows, savedRows, rootRow, childRows}
-use Rattle.rows.specs.Rows.{On, Within, Empty}
+use Rattle.rows.specs.Rows.{On, InRows, Empty}
 use Rattle.steps.specs.Steps.{Slotted, Trail, Sources, Parent}
 use Rattle.closure.specs.Closing.{Plus}
 use Rattle.staging.specs.Stage.{Stages}
@@ -72,5 +72,5 @@ pub record LeafStageable (edges slots digits w : List ℕ) (d longest room cnt :
 
 -- the entries of P are staged, and the children's rows are filled: those of fewer labels are kept
 pub record LevelStages (edges digits w : List ℕ) (d : ℕ) (P : ℕ → Type 0) (room cnt : ℕ) (w′ : List ℕ) (r : ℕ) : Type 0 where
-  pub stages : Stages w (Within savedRows (baseOf d)) P room cnt w′ r
+  pub stages : Stages w (InRows savedRows (baseOf d)) P room cnt w′ r
   pub children : Children edges (wordOf digits d) w′ (baseOf d)

@@ -1,4 +1,4 @@
-// All patterns, by their suffixes: a recursion that goes on only where some walk spells the labels chosen so far. At each word the parent's
+// All patterns, by their suffixes: a recursion that goes on only if some walk spells the labels chosen so far. At each word the parent's
 // rows say where it leads, the entries with one label before it are staged, and then those with more.
 use model::MOST_LABEL;
 use model::MOST_LONGEST;
@@ -9,7 +9,7 @@ ghost use Rattle.model.specs.Limits.{mostLabel, mostLongest};
 ghost use Rattle.model.specs.Patterns.{own?, Keyed};
 ghost use Rattle.model.specs.Suffixes.{Leaf, Some, Beyond};
 ghost use Rattle.rows.specs.Region.{savedRows};
-ghost use Rattle.rows.specs.Rows.{Within};
+ghost use Rattle.rows.specs.Rows.{InRows};
 ghost use Rattle.staging.specs.Stage.{Stages};
 ghost use Rattle.pattern_entries.specs.Pattern.{PatternStages};
 ghost use Rattle.suffixes.specs.Suffixes.{PatternEntry, wordOf, baseOf, Child, NodeStageable, LeafStageable, LevelStages};
@@ -131,7 +131,7 @@ pub fn node(
 ) -> usize
     requires { ⌜ NodeStageable (now edges) (now slots) digits (now w) d starts longest room cnt ⌝ }
     ensures { λ r. ⌜
-        Stages (now (w .entry)) (Within savedRows (baseOf d)) (Beyond longest (PatternEntry (now (edges .entry))) (wordOf digits d)) room cnt (now (w .exit)) r
+        Stages (now (w .entry)) (InRows savedRows (baseOf d)) (Beyond longest (PatternEntry (now (edges .entry))) (wordOf digits d)) room cnt (now (w .exit)) r
         ⌝ }
 {
     let mut n = level(edges, slots, digits, d, w, starts, longest, room, cnt);

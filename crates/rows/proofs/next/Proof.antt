@@ -3,12 +3,12 @@ use Prim.Native.Nat.{_+_, _-_, _*_, _/_}
 use native.Mathlib.Omega.{arith}
 use Rattle.model.specs.Limits.{mostVertices}
 use Rattle.rows.specs.Region.{rowNumbers}
-use Rattle.rows.proofs.Passed.{Passed, passed-none, passed-number, passed-found, passed-all}
+use Rattle.rows.proofs.Passed.{Gap, passed-none, passed-number, passed-found, passed-all}
 use Rattle.rows.proofs.next.Statement.{statement}
 use Rattle.rows.proofs.next.Tie as tie
 
 abbrev Inv-loop : tie.InvT-loop
-Inv-loop w r p q₀ q = Passed w r p q
+Inv-loop w r p q₀ q = Gap w r p q
 
 abbrev μ-loop : tie.MeasureT-loop
 μ-loop w r p q₀ q = mostVertices - q

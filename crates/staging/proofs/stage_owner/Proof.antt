@@ -16,11 +16,16 @@ Inv-loop w₀ s code slots cnt n₀ u₀ w n u = Taking w₀ s code slots cnt w 
 abbrev μ-loop : tie.MeasureT-loop
 μ-loop w₀ s code slots cnt n₀ u₀ w n u = mostVertices - u
 
+-- where the function begins, and after the copying
+abbrev copied : tie.At-loop Inv-loop μ-loop → tie.After-copy Inv-loop μ-loop
+copied c = c .before .before .before .before .before
+
+abbrev start : tie.At-loop Inv-loop μ-loop → tie.Start Inv-loop μ-loop
+start c = copied c .before .before .before
+
 -- there is room for the slots
-room : (c : tie.At-loop Inv-loop μ-loop) → leastWork + c .before .before .before .before .before .before .before .before .args .slots ≤ length (c .loop .w)
-room c =
-    let copy = c .before .before .before .before .before in
-    omega (arith, c .loop .inv .stages .keeps .len, copy .copy .ensures .keeps .len, copy .before .before .before .pre .room)
+room : (c : tie.At-loop Inv-loop μ-loop) → leastWork + start c .args .slots ≤ length (c .loop .w)
+room c = omega (arith, c .loop .inv .stages .keeps .len, copied c .copy .ensures .keeps .len, start c .pre .room)
 
 copy-requires : tie.Need-copy-requires Inv-loop μ-loop
 copy-requires c κs = omega arith
@@ -32,49 +37,37 @@ loop-holds : tie.Need-loop-holds Inv-loop μ-loop
 loop-holds c =
     let copy = c .before .before .before .before in
     let pre = copy .before .before .before .pre in
-    let copied = copy .copy .ensures in
-    taking-none (pre .vertex) (pre .count) (transits-as (picked-steps (copied .keeps)) (pre .transits)) copied (c .next .ensures)
+    taking-none (pre .vertex) (pre .count) (transits-as (picked-steps (copy .copy .ensures .keeps)) (pre .transits)) (copy .copy .ensures) (c .next .ensures)
 
 add-result : tie.Need-add-result Inv-loop μ-loop
 add-result c = omega (arith, room (c .before .before))
 
 same-length : tie.Need-same-length Inv-loop μ-loop
-same-length c = c .before .before .loop .inv .stages .keeps .len ∙ c .before .before .before .before .before .before .before .copy .ensures .keeps .len
+same-length c = c .before .before .loop .inv .stages .keeps .len ∙ copied (c .before .before) .copy .ensures .keeps .len
 
 returns : tie.Need-returns Inv-loop μ-loop
 returns c =
-    let turn = c .before in
-    let copy = turn .before .before .before .before .before .before in
-    let pre = copy .before .before .before .pre in
-    owner-stages pre (copy .copy .ensures) (taking-full (turn .before .loop .inv) (turn .loop-test .taken) (pre .vertex) refl (c .if1 .taken))
+    let loop = c .before .before in
+    owner-stages (start loop .pre) (copied loop .copy .ensures) (taking-full (loop .loop .inv) (c .before .loop-test .taken) (start loop .pre .vertex) refl (c .if1 .taken))
 
-mul-w : tie.Need-mul-w Inv-loop μ-loop
-mul-w c = omega arith
-
-mul-w-2 : tie.Need-mul-w-2 Inv-loop μ-loop
-mul-w-2 c = omega arith
+entry-requires : tie.Need-entry-requires Inv-loop μ-loop
+entry-requires c κs = omega (arith, start (c .before .before) .pre)
 
 add-w : tie.Need-add-w Inv-loop μ-loop
-add-w c = omega arith
+add-w c = omega (arith, room (c .before .before .before))
 
-add-w-2 : tie.Need-add-w-2 Inv-loop μ-loop
-add-w-2 c = omega arith
-
-add-w-3 : tie.Need-add-w-3 Inv-loop μ-loop
-add-w-3 c = omega arith
-
-mul-w-3 : tie.Need-mul-w-3 Inv-loop μ-loop
-mul-w-3 c = omega arith
+mul-w : tie.Need-mul-w Inv-loop μ-loop
+mul-w c = omega (arith, room (c .before .before .before))
 
 slice-write-w : tie.Need-slice-write-w Inv-loop μ-loop
-slice-write-w c = omega (arith, room (c .before .before))
+slice-write-w c = omega (arith, room (c .before .before .before))
 
 add-n : tie.Need-add-n Inv-loop μ-loop
-add-n c = omega (arith, room (c .before .before))
+add-n c = omega (arith, room (c .before .before .before))
 
 subtract-requires : tie.Need-subtract-requires Inv-loop μ-loop
 subtract-requires c κs =
-    let l = room (c .before .before .before) in (
+    let l = room (c .before .before .before .before) in (
       record { row = omega arith; long = simp length-set (omega arith) },
       (record { row = omega arith; long = simp length-set (omega arith) }, record { row = omega arith; long = simp length-set (omega arith) }),
     )
@@ -85,8 +78,9 @@ add-next c = omega arith
 next-requires-2 : tie.Need-next-requires-2 Inv-loop μ-loop
 next-requires-2 c κs =
     let struck = c .before .before .before in
-    let l = room (struck .before .before .before .before) in
-    (keeps-has (struck .subtract .ensures .keeps) (record { row = omega arith; long = simp length-set (omega arith) }), omega arith)
+    let turn = struck .before .before .before .before in
+    let l = room (turn .before) in
+    (keeps-has (struck .subtract .ensures .keeps) (record { row = omega arith; long = simp length-set (omega arith) }), omega (arith, turn .loop-test .taken, start (turn .before) .pre .vertex))
 
 loop-less : tie.Need-loop-less Inv-loop μ-loop
 loop-less c = omega (arith, c .next2 .ensures .low)
@@ -94,27 +88,25 @@ loop-less c = omega (arith, c .next2 .ensures .low)
 loop-again : tie.Need-loop-again Inv-loop μ-loop
 loop-again c =
     let struck = c .before .before .before .before in
-    let turn = struck .before .before .before in
-    let copy = turn .before .before .before .before .before .before in
-    let pre = copy .before .before .before .pre in
+    let turn = struck .before .before .before .before in
+    let inv = turn .before .loop .inv in
+    let pre = start (turn .before) .pre in
     taking-more
-    (turn .before .loop .inv)
+    inv
     (turn .loop-test .taken)
     (pre .vertex)
-    (omega arith)
+    (struck .before .before .entry .ensures)
     (room (turn .before))
-    (omega (arith, struck .before .before .if1 .left, turn .before .loop .inv .fits))
+    (omega (arith, struck .before .before .before .if1 .left, inv .fits))
     (struck .subtract .ensures)
-    (transits-as (picked-steps (copy .copy .ensures .keeps)) (pre .transits))
+    (transits-as (picked-steps (copied (turn .before) .copy .ensures .keeps)) (pre .transits))
     (c .next2 .ensures)
 
 same-length-2 : tie.Need-same-length-2 Inv-loop μ-loop
-same-length-2 c = c .before .loop .inv .stages .keeps .len ∙ c .before .before .before .before .before .before .copy .ensures .keeps .len
+same-length-2 c = c .before .loop .inv .stages .keeps .len ∙ copied (c .before) .copy .ensures .keeps .len
 
 returns-2 : tie.Need-returns-2 Inv-loop μ-loop
-returns-2 c =
-    let copy = c .before .before .before .before .before .before in
-    owner-stages (copy .before .before .before .pre) (copy .copy .ensures) (taking-all (c .before .loop .inv) (c .loop-test .left))
+returns-2 c = owner-stages (start (c .before) .pre) (copied (c .before) .copy .ensures) (taking-all (c .before .loop .inv) (c .loop-test .left))
 
 pub stage-owner-spec : {M : Type 1} → statement M
 stage-owner-spec =
@@ -128,12 +120,9 @@ stage-owner-spec =
     add-result
     same-length
     returns
-    mul-w
-    mul-w-2
+    entry-requires
     add-w
-    add-w-2
-    add-w-3
-    mul-w-3
+    mul-w
     slice-write-w
     add-n
     subtract-requires

@@ -6,7 +6,7 @@ use native.Mathlib.Omega.{arith}
 use lib.ListN.{length, getD}
 use Rattle.model.specs.Limits.{mostLabel, leastWork}
 use Rattle.rows.specs.Region.{savedRows}
-use Rattle.rows.specs.Rows.{Keeps}
+use Rattle.rows.specs.Rows.{KeepsRows}
 use Rattle.rows.proofs.Rows.{keeps-then, keeps-long}
 use Rattle.steps.proofs.Prepending.{Prepending, halves-keep, prepending-none, prepending-half, prepending-clear, label-range, prepending-fillable, prepending-more, prepending-all}
 use Rattle.steps.proofs.fill_parent.Statement.{statement}
@@ -26,7 +26,7 @@ abbrev begun : tie.At-loop Inv-loop μ-loop → List ℕ
 begun c = c .before .before .before .fill-identity .last .0
 
 -- before the loop only the step rows and the parent's change
-since : (c : tie.At-loop Inv-loop μ-loop) → Keeps (start c .args .w .now) (begun c) (λ r. savedRows ≤ r)
+since : (c : tie.At-loop Inv-loop μ-loop) → KeepsRows (start c .args .w .now) (begun c) (λ r. savedRows ≤ r)
 since c =
     let identity = c .before .before .before in
     keeps-then
