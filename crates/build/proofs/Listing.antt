@@ -4,7 +4,7 @@ use mathlib.Core.Logic.{_↔_}
 use mathlib.Core.List.{List, map, Memᴰ·map, Memᴰ·of-map}
 use Prim.Native.Nat.{ℕ, _+_, _≤_, _<_}
 use native.Mathlib.Omega.{arith}
-use lib.ListN.{length, getD, take, drop, length-drop, length-map}
+use lib.ListN.{length, getD, drop, length-drop, length-map}
 use lib.Seq.{length-take-le, getD-take, getD-drop}
 use Rattle.model.specs.Lists.{_∈_, upTo, filled}
 use Rattle.model.specs.Limits.{mostVertices, leastWork, hubUnit}
@@ -24,7 +24,7 @@ use Rattle.sort.specs.Order.{Distinct, Sorts}
 use Rattle.output.specs.Output.{Translatable, WritesIndex}
 use Rattle.output.proofs.Putting.{translate-once}
 use Rattle.staging.specs.Stage.{staged, Adds, Over}
-use Rattle.build.specs.Parts.{stagedList}
+use Rattle.build.specs.Staging.{stagedList}
 
 -- ---- the list has each staged number once
 

@@ -1,8 +1,8 @@
 -- The entries of the renumbered graph, staged.
-use mathlib.Core.Path.{_≡_, refl}
+use mathlib.Core.Path.{refl}
 use mathlib.Core.List.{List, [], List·Memᴰ·not-nil}
-use mathlib.Core.Logic.{_↔_, _≢_, Iff·symm}
-use Prim.Native.Nat.{ℕ, _+_, _≤_, _<_}
+use mathlib.Core.Logic.{_↔_, Iff·symm}
+use Prim.Native.Nat.{ℕ, _≤_, _<_}
 use native.Mathlib.Omega.{arith}
 use lib.ListN.{length, take, replicate}
 use Rattle.model.specs.Lists.{_∈_, upTo}
@@ -15,14 +15,13 @@ use Rattle.edges.specs.Slots.{Starts}
 use Rattle.renumber.specs.Ranked.{Renumbered}
 use Rattle.rows.specs.Region.{savedRows, rootRow}
 use Rattle.rows.specs.Rows.{InRows, Becomes}
-use Rattle.rows.proofs.Rows.{keeps-long}
 use Rattle.steps.specs.Steps.{Slotted}
 use Rattle.staging.specs.Stage.{Stages}
 use Rattle.staging.proofs.Adding.{stages-as, stages-since, stages-within}
 use Rattle.suffixes.specs.Suffixes.{PatternEntry, wordOf, baseOf, NodeStageable}
 use Rattle.suffixes.proofs.Entries.{entries-beyond}
 use Rattle.build.specs.Build.{Buildable}
-use Rattle.build.specs.Parts.{GraphStages}
+use Rattle.build.specs.Staging.{GraphStages}
 
 -- no label is chosen
 abbrev blank : List ℕ

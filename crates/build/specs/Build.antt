@@ -36,6 +36,7 @@ indexOf g order index = cond (ltb (length index) (length (listOf g order))) inde
 abbrev pub Saved : List ℕ → List ℕ → Type 0
 Saved w w′ = KeepsRows w w′ (InRows savedRows rootRow)
 
+-- reply and index memory are the definition's, and saved edge memory is kept
 pub record Builds (g : Graph) (order index w index′ w′ : List ℕ) (r : Built) : Type 0 where
   pub reply : r ≡ builtOf g order (length index)
   pub index-is : index′ ≡ indexOf g order index

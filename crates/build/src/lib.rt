@@ -4,7 +4,7 @@ use model::LEAST_WORK;
 use model::MOST_LONGEST;
 ghost use lib.ListN.{length};
 ghost use Rattle.build.specs.Build.{Buildable, Builds};
-ghost use Rattle.build.specs.Parts.{GraphStages, StageWritable, WritesStage};
+ghost use Rattle.build.specs.Staging.{GraphStages};
 
 // How many entries the index has, or that they do not fit.
 pub enum Built {
@@ -41,15 +41,6 @@ fn stage(
     )
 }
 
-// Puts the n staged entries back to vertices, and writes them to index memory.
-fn write_out(order: &[u8], w: &mut [u64], n: usize, index: &mut [u64])
-    requires { ⌜ StageWritable (now order) (now w) (now index) n ⌝ }
-    ensures { λ _. ⌜ WritesStage (now (order .entry)) (now (w .entry)) (now (index .entry)) n (now (w .exit)) (now (index .exit)) ⌝ }
-{
-    output::put_back(order, &mut w[LEAST_WORK..LEAST_WORK + n]);
-    output::write(&mut w[LEAST_WORK..LEAST_WORK + n], index);
-}
-
 // Fills index memory with the entries that the graph determines with the order, if they fit; else leaves it as it was. Work memory holds
 // anything afterwards, except that the numbers in which edge memory is saved are kept.
 pub fn build(
@@ -72,6 +63,6 @@ pub fn build(
         return Built::TooMany;
     }
     let n = vertices as usize;
-    write_out(&order[..n], w, count, index);
+    output::write(&order[..n], &mut w[LEAST_WORK..LEAST_WORK + count], index);
     Built::Entries(count)
 }

@@ -11,10 +11,9 @@ use Rattle.model.specs.Lists.{_∈_, upTo, from, Sorted}
 use Rattle.model.specs.Edges.{Graph}
 use Rattle.model.specs.Patterns.{Pattern, code}
 use Rattle.model.specs.Walks.{Edge, Spells, here, edge, Runs, once, more, Stop, Between}
-use Rattle.model.specs.Order.{rank, Names}
+use Rattle.model.specs.Order.{rank}
 use Rattle.model.specs.Entries.{Earliest, outEntry, inEntry, Asked, IsEntry}
 use Rattle.model.specs.Hubs.{Picked, EntryBy}
-use Rattle.model.proofs.Lists.{up-to, below, rising-from, sorted-imp}
 use Rattle.model.proofs.Walks.{stop-iff, stop-start, stop-end, runs-to}
 use Rattle.model.proofs.Order.{rank-here, rank-there}
 
@@ -81,9 +80,6 @@ rank-from a (suc n) v h k = ⊎-elim
 
 pub rank-own : (n v : ℕ) → v < n → rank (upTo n) v ≡ v
 rank-own n v h = omega (arith, rank-from 0 n v (omega arith) (omega arith))
-
-pub own-names : (n : ℕ) → Names n (upTo n)
-own-names n = record { each = λ v h. up-to h; only = λ v m. below m; once = sorted-imp (λ a b h e. omega arith) (rising-from 0 n) }
 
 pub picked-as : {R S : ℕ → ℕ → Type 0} {side c e : ℕ} → ((a b : ℕ) → R a b ↔ S a b) → Picked R side c e → Picked S side c e
 picked-as f p = record {

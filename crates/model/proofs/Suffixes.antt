@@ -40,15 +40,15 @@ ends (x ∷ l) = go (ends l)
     go empty = last [] x
     go (last v c) = last (x ∷ v) c
 
--- a label of a pattern is 1 to 8
+-- a label of a pattern is one
 labelled : {k : ℕ} (v : List ℕ) (c : ℕ) (w : List ℕ) → Pattern k (v ++ (c ∷ w)) → (1 ≤ c) × (c ≤ mostLabel)
 labelled v c w p = p .keyed .labels c (Memᴰ·append-right v (List·Memᴰ·head refl))
 
 module _ {k : ℕ} {F : List ℕ → ℕ → Type 0} where
-  pub beyond-parts : (w : List ℕ) (e : ℕ) → (Some 8 (Leaf k F w) e ⊎ Some 8 (Branch k F w) e) ↔ Beyond k F w e
+  pub beyond-parts : (w : List ℕ) (e : ℕ) → (Some mostLabel (Leaf k F w) e ⊎ Some mostLabel (Branch k F w) e) ↔ Beyond k F w e
   beyond-parts w e = (back, λ b. there (ends (b .front)) (b .label) (b .within))
     where
-      there : {v : List ℕ} → Ends v → (c : ℕ) → With k F (v ++ (c ∷ w)) e → Some 8 (Leaf k F w) e ⊎ Some 8 (Branch k F w) e
+      there : {v : List ℕ} → Ends v → (c : ℕ) → With k F (v ++ (c ∷ w)) e → Some mostLabel (Leaf k F w) e ⊎ Some mostLabel (Branch k F w) e
       there empty zero p = absurd (omega (arith, labelled [] 0 w (p .pattern)))
       there empty (suc c) p = inl (record { which = c; small = omega (arith, labelled [] (suc c) w (p .pattern)); holds = p })
       there (last v d) zero p = absurd (omega (arith, labelled (v ++ (d ∷ [])) 0 w (p .pattern)))
@@ -58,7 +58,7 @@ module _ {k : ℕ} {F : List ℕ → ℕ → Type 0} where
         holds = record { front = v; label = d; within = rw (append-assoc v (d ∷ []) (suc c ∷ w)) at p };
       })
 
-      back : Some 8 (Leaf k F w) e ⊎ Some 8 (Branch k F w) e → Beyond k F w e
+      back : Some mostLabel (Leaf k F w) e ⊎ Some mostLabel (Branch k F w) e → Beyond k F w e
       back (inl s) = record { front = []; label = suc (s .which); within = s .holds }
       back (inr s) = record {
         front = s .holds .front ++ (s .holds .label ∷ []);

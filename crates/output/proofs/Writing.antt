@@ -9,6 +9,9 @@ use Rattle.model.specs.Lists.{zeroed}
 use Rattle.sort.specs.Order.{Sorts}
 use Rattle.output.specs.Output.{WritesIndex}
 
+pub written-as : {staged staged′ index index′ : List ℕ} → staged ≡ staged′ → WritesIndex staged index index′ → WritesIndex staged′ index index′
+written-as e z = rw e at z
+
 module _ (staged index : List ℕ) {sorted : List ℕ} (s : Sorts staged sorted) where
   abbrev pub n : ℕ
   n = length staged

@@ -5,12 +5,11 @@ use model::OWNER_UNIT;
 use model::SIDE_UNIT;
 ghost use mathlib.Core.Path.{_≡_};
 ghost use mathlib.Core.List.{map};
-ghost use Prim.Native.Nat.{_≤_, _<_};
+ghost use Prim.Native.Nat.{_<_};
 ghost use lib.ListN.{length};
 ghost use Rattle.model.specs.Query.{sideOf, ownerOf, hubOf};
 ghost use Rattle.model.specs.Renumber.{translate};
-ghost use Rattle.sort.specs.Order.{Distinct, FiveBytes};
-ghost use Rattle.output.specs.Output.{Translatable, WritesIndex};
+ghost use Rattle.output.specs.Output.{Translatable, IndexWritable, WritesIndex};
 
 // What the remainder of an owner or a hub is taken by.
 const VERTICES: u64 = MOST_VERTICES as u64;
@@ -26,7 +25,7 @@ fn put_one(order: &[u8], x: u64) -> u64
 }
 
 // Puts back owner and hub of each staged entry: vertex order[r] for rank r.
-pub fn put_back(order: &[u8], staged: &mut [u64])
+fn put_back(order: &[u8], staged: &mut [u64])
     requires { ⌜ Translatable (now order) (now staged) ⌝ }
     ensures { λ _. ⌜ now (staged .exit) ≡ map (translate (now (order .entry))) (now (staged .entry)) ⌝ }
 {
@@ -38,11 +37,12 @@ pub fn put_back(order: &[u8], staged: &mut [u64])
     }
 }
 
-// Writes the staged entries to index memory in rising order, and zeros behind them. The stage holds anything afterwards.
-pub fn write(staged: &mut [u64], index: &mut [u64])
-    requires { ⌜ (length (now staged) ≤ length (now index)) × (Distinct (now staged) × FiveBytes (now staged)) ⌝ }
-    ensures { λ _. ⌜ WritesIndex (now (staged .entry)) (now (index .entry)) (now (index .exit)) ⌝ }
+// Writes the staged entries, put back, to index memory in rising order, and zeros behind them. The stage holds anything afterwards.
+pub fn write(order: &[u8], staged: &mut [u64], index: &mut [u64])
+    requires { ⌜ IndexWritable (now order) (now staged) (now index) ⌝ }
+    ensures { λ _. ⌜ WritesIndex (map (translate (now (order .entry))) (now (staged .entry))) (now (index .entry)) (now (index .exit)) ⌝ }
 {
+    put_back(order, staged);
     let n = staged.len();
     sort::sort(staged, &mut index[..n]);
     edges::clear_work(&mut index[n..]);

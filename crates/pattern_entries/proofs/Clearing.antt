@@ -1,6 +1,5 @@
 -- Step rows emptied one after another.
 use mathlib.Core.Path.{_∙_}
-use mathlib.Core.Logic.{_≢_}
 use mathlib.Core.List.{List}
 use Prim.Native.Nat.{ℕ, _+_, _≤_, _<_}
 use native.Mathlib.Omega.{arith}

@@ -1,14 +1,14 @@
 -- The entries of one pattern: filled, closed, staged, emptied.
 use mathlib.Core.Path.{_∙_}
 use mathlib.Core.List.{List}
-use mathlib.Core.Logic.{_↔_, _≢_, Iff·trans, Iff·symm}
-use Prim.Native.Nat.{ℕ, _+_, _≤_, _<_}
+use mathlib.Core.Logic.{_↔_, Iff·trans, Iff·symm}
+use Prim.Native.Nat.{ℕ, _<_}
 use native.Mathlib.Nat.{zero-add}
 use native.Mathlib.Omega.{arith}
 use Rattle.model.specs.Limits.{mostVertices}
 use Rattle.model.specs.Hubs.{EntryBy}
 use Rattle.model.proofs.Hubs.{entry-by-as}
-use Rattle.rows.specs.Region.{workRows, stepRows, parentRows, openRow}
+use Rattle.rows.specs.Region.{stepRows, parentRows, openRow}
 use Rattle.rows.specs.Rows.{On, Row, InRows, Step, Domain}
 use Rattle.rows.proofs.Rows.{keeps-cell, keeps-domain, keeps-long}
 use Rattle.steps.specs.Filling.{Via, RowsFillable, FillsRows, Clears}

@@ -5,7 +5,7 @@ use mathlib.Core.List.{List}
 use Prim.Native.Nat.{ℕ, _+_, _*_, _/_, _%_, _^_, _≤_, _<_}
 use native.Mathlib.Omega.{arith}
 use native.Mathlib.Decide.{ℕ-discrete}
-use lib.ListN.{length, getD}
+use lib.ListN.{length}
 use Rattle.model.specs.Limits.{mostVertices, leastWork}
 use Rattle.rows.specs.Region.{rowNumbers}
 use Rattle.rows.specs.Rows.{cell, On, Has, Row, KeepsRows, InRows, Empty, Becomes, NextVertex, Step, Domain}

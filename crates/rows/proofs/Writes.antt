@@ -10,7 +10,7 @@ use native.Mathlib.Decide.{ℕ-discrete}
 use lib.Bits.{bitAnd, bitOr, and-zero-r, or-zero-r, xor-zero-r}
 use lib.Dec.{eqb}
 use borrow.Author.Tests.{eq-eqb, ne-eqb}
-use lib.ListN.{length, getD, set, length-set}
+use lib.ListN.{getD, set, length-set}
 use lib.Seq.{getD-set-other}
 use Rattle.model.specs.Limits.{mostVertices}
 use Rattle.model.proofs.Lists.{getD-set}
@@ -75,25 +75,22 @@ unfolding cell
 copy-is {w} {a = a} h d e = rw (e, d) (simp add-zero at (stored-is (h .0) (λ k. getD w (a * rowNumbers + k) 0) (λ j _. Iff·rfl)))
 
 -- row x made of rows a and b
-module _ {w w′ : List ℕ} {x a b : ℕ} {p q v : Words} (h : Has w x × (Has w a × Has w b))
-    (first : p ≡ loaded w a) (second : q ≡ loaded w b) where
+module _ {w w′ : List ℕ} {x a b : ℕ} {p q : Words} (h : Has w x × (Has w a × Has w b)) (first : p ≡ loaded w a) (second : q ≡ loaded w b) where
   paired-is : (f : ℕ → ℕ → ℕ) {P : ℕ → Type 0}
       → ((j : ℕ) → j < mostVertices → (bit (f (getD w (a * rowNumbers + j / 64) 0) (getD w (b * rowNumbers + j / 64) 0)) (j % 64) ≡ 1) ↔ P j)
-      → v ≡ paired f p q → w′ ≡ stored w x v → Becomes w w′ x P
-  paired-is f g d e =
-      rw
-      (e, d, first, second)
-      (simp add-zero at (stored-is (h .0) (λ k. f (getD w (a * rowNumbers + k) 0) (getD w (b * rowNumbers + k) 0)) g))
+      → w′ ≡ stored w x (paired f p q) → Becomes w w′ x P
+  paired-is f g e =
+      rw (e, first, second) (simp add-zero at (stored-is (h .0) (λ k. f (getD w (a * rowNumbers + k) 0) (getD w (b * rowNumbers + k) 0)) g))
 
-  pub union-is : v ≡ paired bitOr p q → w′ ≡ stored w x v → Becomes w w′ x (λ k. On w a k ⊎ On w b k)
+  pub union-is : w′ ≡ stored w x (paired bitOr p q) → Becomes w w′ x (λ k. On w a k ⊎ On w b k)
   unfolding cell
   union-is = paired-is bitOr (λ j _. or-iff _ _ (j % 64))
 
-  pub intersect-is : v ≡ paired bitAnd p q → w′ ≡ stored w x v → Becomes w w′ x (λ k. On w a k × On w b k)
+  pub intersect-is : w′ ≡ stored w x (paired bitAnd p q) → Becomes w w′ x (λ k. On w a k × On w b k)
   unfolding cell
   intersect-is = paired-is bitAnd (λ j _. and-iff _ _ (j % 64))
 
-  pub subtract-is : v ≡ paired without p q → w′ ≡ stored w x v → Becomes w w′ x (λ k. On w a k × (On w b k → ⊥))
+  pub subtract-is : w′ ≡ stored w x (paired without p q) → Becomes w w′ x (λ k. On w a k × (On w b k → ⊥))
   unfolding cell
   subtract-is = paired-is without (λ j _. without-iff _ _ (j % 64))
 

@@ -6,11 +6,10 @@ use model::MOST_LONGEST;
 use model::MOST_VERTICES;
 ghost use mathlib.Core.Path.{_≡_};
 ghost use mathlib.Core.Logic.{_⊎_};
-ghost use Prim.Native.Nat.{ℕ, _≤_, _<_};
-ghost use lib.Bits.{bitAnd, bitOr};
+ghost use Prim.Native.Nat.{_≤_, _<_};
 ghost use Rattle.model.specs.Limits.{mostVertices};
 ghost use Rattle.rows.specs.Rows.{cell, On, Has, Becomes, NextVertex};
-ghost use Rattle.rows.specs.Four.{without, paired, loaded, stored};
+ghost use Rattle.rows.specs.Four.{loaded, stored};
 
 // The bits of a number, and the numbers of a row.
 const BITS: usize = 64;
@@ -99,40 +98,6 @@ fn store(w: &mut [u64], r: usize, v: Words)
     w[i + 3] = v.d;
 }
 
-// Each number of p with its fellow of q: the bits of either; of both; of p and not of q.
-fn either(p: Words, q: Words) -> Words
-    ensures { λ v. ⌜ v ≡ paired bitOr p q ⌝ }
-{
-    Words {
-        a: p.a | q.a,
-        b: p.b | q.b,
-        c: p.c | q.c,
-        d: p.d | q.d,
-    }
-}
-
-fn both(p: Words, q: Words) -> Words
-    ensures { λ v. ⌜ v ≡ paired bitAnd p q ⌝ }
-{
-    Words {
-        a: p.a & q.a,
-        b: p.b & q.b,
-        c: p.c & q.c,
-        d: p.d & q.d,
-    }
-}
-
-fn first_only(p: Words, q: Words) -> Words
-    ensures { λ v. ⌜ v ≡ paired without p q ⌝ }
-{
-    Words {
-        a: p.a ^ (p.a & q.a),
-        b: p.b ^ (p.b & q.b),
-        c: p.c ^ (p.c & q.c),
-        d: p.d ^ (p.d & q.d),
-    }
-}
-
 // Makes row x the vertices in row a or row b; in both; in row a and not in row b. x may be a or b.
 pub fn union(w: &mut [u64], x: usize, a: usize, b: usize)
     requires { ⌜ Has (now w) x × (Has (now w) a × Has (now w) b) ⌝ }
@@ -140,7 +105,12 @@ pub fn union(w: &mut [u64], x: usize, a: usize, b: usize)
 {
     let p = load(w, a);
     let q = load(w, b);
-    let v = either(p, q);
+    let v = Words {
+        a: p.a | q.a,
+        b: p.b | q.b,
+        c: p.c | q.c,
+        d: p.d | q.d,
+    };
     store(w, x, v);
 }
 
@@ -150,7 +120,12 @@ pub fn intersect(w: &mut [u64], x: usize, a: usize, b: usize)
 {
     let p = load(w, a);
     let q = load(w, b);
-    let v = both(p, q);
+    let v = Words {
+        a: p.a & q.a,
+        b: p.b & q.b,
+        c: p.c & q.c,
+        d: p.d & q.d,
+    };
     store(w, x, v);
 }
 
@@ -160,7 +135,12 @@ pub fn subtract(w: &mut [u64], x: usize, a: usize, b: usize)
 {
     let p = load(w, a);
     let q = load(w, b);
-    let v = first_only(p, q);
+    let v = Words {
+        a: p.a ^ (p.a & q.a),
+        b: p.b ^ (p.b & q.b),
+        c: p.c ^ (p.c & q.c),
+        d: p.d ^ (p.d & q.d),
+    };
     store(w, x, v);
 }
 

@@ -12,7 +12,7 @@ use Rattle.model.specs.Limits.{leastWork}
 use Rattle.rows.specs.Region.{rowNumbers, workRows}
 use Rattle.rows.specs.Rows.{KeepsRows}
 use Rattle.rows.proofs.Rows.{keeps-none, keeps-as, keeps-then}
-use Rattle.staging.specs.Stage.{staged, StagedAt, Different, Adds, Over, Stages}
+use Rattle.staging.specs.Stage.{staged, Different, Adds, Over, Stages}
 
 -- ---- in one memory
 

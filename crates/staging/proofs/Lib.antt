@@ -3,4 +3,3 @@ pub mod Picking
 pub mod Emitting
 pub mod Owning
 pub mod Passing
-pub mod Sides

@@ -1,12 +1,12 @@
 -- The out entries of one owner, staged hub by hub: row `picked` is the owner's row, less the rows of the hubs taken.
 use mathlib.Core.Path.{_≡_, sym, ap, _∙_}
-use mathlib.Core.Logic.{_⊎_, _↔_, _≢_, Iff·trans, Iff·symm}
+use mathlib.Core.Logic.{_⊎_, _↔_, Iff·trans, Iff·symm}
 use mathlib.Core.List.{List}
 use Prim.Native.Nat.{ℕ, _+_, _≤_, _<_}
 use native.Mathlib.Omega.{arith}
 use native.Mathlib.Decide.{ℕ-discrete, decLt}
 use lib.ListN.{length, set}
-use Rattle.model.specs.Limits.{mostVertices, leastWork, hubUnit}
+use Rattle.model.specs.Limits.{mostVertices, leastWork}
 use Rattle.model.specs.Entries.{entryOf}
 use Rattle.model.specs.Query.{ownerOf}
 use Rattle.model.specs.Hubs.{Picked}

@@ -1,4 +1,5 @@
-// Staging: the entries of one pattern from the closed step rows, the out entries owner by owner, and then the in entries hub by hub.
+// Staging: the entries of one pattern from the closed step rows, vertex by vertex: the out entries that it owns, and the in entries whose hub
+// it is.
 use model::HUB_UNIT;
 use model::LEAST_WORK;
 use model::MOST_VERTICES;
@@ -59,23 +60,6 @@ fn stage_hub(w: &mut [u64], u: usize, code: u64, slots: usize, cnt: usize) -> us
     k
 }
 
-// Stages the in entries behind the first cnt, and returns as stage_hub does.
-fn stage_in(w: &mut [u64], domain: usize, code: u64, slots: usize, cnt: usize) -> usize
-    requires { ⌜ Stageable (now w) domain code slots cnt ⌝ }
-    ensures { λ r. ⌜ Stages (now (w .entry)) Unpicked (Picked (Step (now (w .entry))) 1 code) slots cnt (now (w .exit)) r ⌝ }
-{
-    let mut k = cnt;
-    let mut u = rows::next(w, domain, 0);
-    while u < MOST_VERTICES {
-        k = stage_hub(w, u, code, slots, k);
-        if slots < k {
-            return k;
-        }
-        u = rows::next(w, domain, u + 1);
-    }
-    k
-}
-
 // Stages the out entries of owner s behind the first cnt: the vertices of its row no later than s, less the rows of those taken before. As
 // the rows are closed, what a vertex that was struck out leads to is struck out as well. Returns as stage_hub does.
 fn stage_owner(w: &mut [u64], s: usize, code: u64, slots: usize, cnt: usize) -> usize
@@ -99,31 +83,24 @@ fn stage_owner(w: &mut [u64], s: usize, code: u64, slots: usize, cnt: usize) -> 
     n
 }
 
-// Stages the out entries behind the first cnt, and returns as stage_hub does.
-fn stage_out(w: &mut [u64], domain: usize, code: u64, slots: usize, cnt: usize) -> usize
-    requires { ⌜ Stageable (now w) domain code slots cnt ⌝ }
-    ensures { λ r. ⌜ Stages (now (w .entry)) Unpicked (Picked (λ u y. Step (now (w .entry)) y u) 0 code) slots cnt (now (w .exit)) r ⌝ }
-{
-    let mut n = cnt;
-    let mut s = rows::next(w, domain, 0);
-    while s < MOST_VERTICES {
-        n = stage_owner(w, s, code, slots, n);
-        if slots < n {
-            return n;
-        }
-        s = rows::next(w, domain, s + 1);
-    }
-    n
-}
-
-// Stages the entries of both sides behind the first cnt. Returns how many are staged then, or slots + 1 if there are more than slots.
+// Stages the entries of both sides behind the first cnt, vertex by vertex: those that it owns, and those whose hub it is. Returns how many are
+// staged then, or slots + 1 if there are more than slots.
 pub fn stage(w: &mut [u64], domain: usize, code: u64, slots: usize, cnt: usize) -> usize
     requires { ⌜ Stageable (now w) domain code slots cnt ⌝ }
     ensures { λ r. ⌜ Stages (now (w .entry)) Unpicked (EntryBy (Step (now (w .entry))) code) slots cnt (now (w .exit)) r ⌝ }
 {
-    let outs = stage_out(w, domain, code, slots, cnt);
-    if slots < outs {
-        return outs;
+    let mut n = cnt;
+    let mut v = rows::next(w, domain, 0);
+    while v < MOST_VERTICES {
+        let outs = stage_owner(w, v, code, slots, n);
+        if slots < outs {
+            return outs;
+        }
+        n = stage_hub(w, v, code, slots, outs);
+        if slots < n {
+            return n;
+        }
+        v = rows::next(w, domain, v + 1);
     }
-    stage_in(w, domain, code, slots, outs)
+    n
 }

@@ -1,6 +1,6 @@
 -- Rows filled, one for each vertex.
-use mathlib.Core.Path.{_≡_, sym, _∙_}
-use mathlib.Core.Logic.{_⊎_, inl, inr, ⊎-elim, ⊎-map, _↔_, _≢_}
+use mathlib.Core.Path.{_∙_}
+use mathlib.Core.Logic.{_⊎_, inr, ⊎-elim, ⊎-map}
 use mathlib.Core.List.{List}
 use Prim.Native.Nat.{ℕ, _+_, _-_, _≤_, _<_}
 use native.Mathlib.Omega.{arith}

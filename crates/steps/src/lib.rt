@@ -7,7 +7,7 @@ ghost use mathlib.Core.Path.{_≡_};
 ghost use mathlib.Core.Logic.{_⊎_};
 ghost use Prim.Native.Nat.{_+_, _≤_, _<_};
 ghost use lib.ListN.{length};
-ghost use Rattle.model.specs.Limits.{mostVertices, mostLabel, leastWork};
+ghost use Rattle.model.specs.Limits.{leastWork};
 ghost use Rattle.rows.specs.Region.{workRows};
 ghost use Rattle.rows.specs.Rows.{On, Becomes};
 ghost use Rattle.steps.specs.Steps.{Edged, Slotted, Word, Sources, FillsParent, Branchable, Branches};

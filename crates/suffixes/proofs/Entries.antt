@@ -2,14 +2,14 @@
 -- are the determined ones.
 use mathlib.Core.Path.{_≡_, refl}
 use mathlib.Core.Bool.{true}
-use mathlib.Core.Logic.{_↔_, Iff·trans, Iff·symm}
+use mathlib.Core.Logic.{_↔_, Iff·trans}
 use mathlib.Core.List.{List, [], _∷_, _++_, List·Memᴰ·head}
 use Prim.Native.Nat.{ℕ, suc, _+_, _≤_, _<_}
 use native.Mathlib.Nat.{not-suc-le-zero}
 use native.Mathlib.Omega.{arith}
 use lib.ListN.{length}
 use Rattle.model.specs.Lists.{_∈_, upTo}
-use Rattle.model.specs.Limits.{mostVertices, mostLabel, mostLongest, fromUnit, labelUnit}
+use Rattle.model.specs.Limits.{mostVertices, mostLabel, mostLongest}
 use Rattle.model.specs.Edges.{Graph, edge?, edgeNumber}
 use Rattle.model.specs.Patterns.{Pattern, code}
 use Rattle.model.specs.Walks.{Spells, Runs, once, more}

@@ -1,13 +1,13 @@
 -- The entries with more labels before a word, child by child.
 use mathlib.Core.Path.{_≡_, subst, _∙_}
 use mathlib.Core.List.{List, _∷_, _++_}
-use mathlib.Core.Logic.{_⊎_, inl, ⊎-elim, ⊎-map, Iff·trans}
-use Prim.Native.Nat.{ℕ, suc, _+_, _*_, _≤_, _<_}
+use mathlib.Core.Logic.{_⊎_, inl, ⊎-elim, ⊎-map}
+use Prim.Native.Nat.{ℕ, suc, _+_, _≤_, _<_}
 use native.Mathlib.Omega.{arith}
 use Rattle.model.specs.Limits.{mostVertices, mostLabel}
 use Rattle.model.specs.Suffixes.{Beyond, Leaf, Branch, Some}
 use Rattle.model.proofs.Suffixes.{some-none, some-up, some-more, beyond-parts, beyond-long, beyond-none, branches-apart, parts-apart}
-use Rattle.rows.specs.Region.{savedRows, childRows}
+use Rattle.rows.specs.Region.{savedRows}
 use Rattle.rows.specs.Rows.{KeepsRows, InRows, NextVertex}
 use Rattle.rows.proofs.Rows.{keeps-then, keeps-cell}
 use Rattle.steps.specs.Steps.{Sources}

@@ -10,9 +10,6 @@ load-requires c κs = search needs
 load-requires-2 : tie.Need-load-requires-2
 load-requires-2 c κs = search needs
 
-both-requires : tie.Need-both-requires
-both-requires c κs = search needs
-
 store-requires : tie.Need-store-requires
 store-requires c κs = search needs
 
@@ -22,15 +19,9 @@ same-length c = search needs
 returns : tie.Need-returns
 returns c =
     let written = c .before .before in
-    let paired = written .before .before in
-    let second = paired .before in
+    let second = written .before .before .before .before .before .before .before .before .before .before in
     let first = second .before .before in
-    intersect-is
-    (first .before .before .before .pre)
-    (first .load .ensures)
-    (second .load2 .ensures)
-    (paired .both .ensures)
-    (written .store .ensures)
+    intersect-is (first .before .before .before .pre) (first .load .ensures) (second .load2 .ensures) (written .store .ensures)
 
 pub intersect-spec : {M : Type 1} → statement M
-intersect-spec = tie.close (tie.spec load-requires load-requires-2 both-requires store-requires same-length returns)
+intersect-spec = tie.close (tie.spec load-requires load-requires-2 store-requires same-length returns)

@@ -10,11 +10,8 @@ load-requires c κs = search needs
 load-requires-2 : tie.Need-load-requires-2
 load-requires-2 c κs = search needs
 
-first-only-requires : tie.Need-first-only-requires
-first-only-requires c κs = search needs
-
 store-requires : tie.Need-store-requires
-store-requires c κs = search needs
+store-requires c κs = c .before .before .before .before .before .before .before .before .before .before .before .before .before .before .before .before .before .before .pre .0
 
 same-length : tie.Need-same-length
 same-length c = search needs
@@ -22,15 +19,9 @@ same-length c = search needs
 returns : tie.Need-returns
 returns c =
     let written = c .before .before in
-    let paired = written .before .before in
-    let second = paired .before in
+    let second = written .before .before .before .before .before .before .before .before .before .before .before .before .before .before in
     let first = second .before .before in
-    subtract-is
-    (first .before .before .before .pre)
-    (first .load .ensures)
-    (second .load2 .ensures)
-    (paired .first-only .ensures)
-    (written .store .ensures)
+    subtract-is (first .before .before .before .pre) (first .load .ensures) (second .load2 .ensures) (written .store .ensures)
 
 pub subtract-spec : {M : Type 1} → statement M
-subtract-spec = tie.close (tie.spec load-requires load-requires-2 first-only-requires store-requires same-length returns)
+subtract-spec = tie.close (tie.spec load-requires load-requires-2 store-requires same-length returns)

@@ -48,7 +48,7 @@ returns c =
     let loop = c .before .before in
     let pre = start loop .pre in
     hub-stages (pre .vertex) (pre .code-small) (picked loop .pick .ensures)
-    (emitting-full (loop .loop .inv) (c .before .loop-test .taken) refl (c .if1 .taken))
+    (emitting-full (loop .loop .inv) (omega (arith, c .before .loop-test .taken)) refl (c .if1 .taken))
 
 entry-requires : tie.Need-entry-requires Inv-loop μ-loop
 entry-requires c κs = omega (arith, start (c .before .before) .pre)
@@ -78,7 +78,7 @@ loop-again : tie.Need-loop-again Inv-loop μ-loop
 loop-again c =
     let turn = c .before .before .before .before in
     let inv = turn .before .loop .inv in
-    emitting-more inv (turn .loop-test .taken) (c .before .before .entry .ensures) (omega (arith, c .before .before .before .if1 .left, inv .fits)) (room (turn .before)) (c .next2 .ensures)
+    emitting-more inv (omega (arith, turn .loop-test .taken)) (c .before .before .entry .ensures) (omega (arith, c .before .before .before .if1 .left, inv .fits)) (room (turn .before)) (c .next2 .ensures)
 
 same-length-2 : tie.Need-same-length-2 Inv-loop μ-loop
 same-length-2 c = c .before .loop .inv .stages .keeps .len ∙ picked (c .before) .pick .ensures .keeps .len
@@ -86,7 +86,7 @@ same-length-2 c = c .before .loop .inv .stages .keeps .len ∙ picked (c .before
 returns-2 : tie.Need-returns-2 Inv-loop μ-loop
 returns-2 c =
     let pre = start (c .before) .pre in
-    hub-stages (pre .vertex) (pre .code-small) (picked (c .before) .pick .ensures) (emitting-all (c .before .loop .inv) (c .loop-test .left))
+    hub-stages (pre .vertex) (pre .code-small) (picked (c .before) .pick .ensures) (emitting-all (c .before .loop .inv) (omega (arith, c .loop-test .left)))
 
 pub stage-hub-spec : {M : Type 1} → statement M
 stage-hub-spec =

@@ -48,7 +48,7 @@ same-length c = c .before .before .loop .inv .stages .keeps .len ∙ copied (c .
 returns : tie.Need-returns Inv-loop μ-loop
 returns c =
     let loop = c .before .before in
-    owner-stages (start loop .pre) (copied loop .copy .ensures) (taking-full (loop .loop .inv) (c .before .loop-test .taken) (start loop .pre .vertex) refl (c .if1 .taken))
+    owner-stages (start loop .pre) (copied loop .copy .ensures) (taking-full (loop .loop .inv) (omega (arith, c .before .loop-test .taken)) (start loop .pre .vertex) refl (c .if1 .taken))
 
 entry-requires : tie.Need-entry-requires Inv-loop μ-loop
 entry-requires c κs = omega (arith, start (c .before .before) .pre)
@@ -93,7 +93,7 @@ loop-again c =
     let pre = start (turn .before) .pre in
     taking-more
     inv
-    (turn .loop-test .taken)
+    (omega (arith, turn .loop-test .taken))
     (pre .vertex)
     (struck .before .before .entry .ensures)
     (room (turn .before))
@@ -106,7 +106,7 @@ same-length-2 : tie.Need-same-length-2 Inv-loop μ-loop
 same-length-2 c = c .before .loop .inv .stages .keeps .len ∙ copied (c .before) .copy .ensures .keeps .len
 
 returns-2 : tie.Need-returns-2 Inv-loop μ-loop
-returns-2 c = owner-stages (start (c .before) .pre) (copied (c .before) .copy .ensures) (taking-all (c .before .loop .inv) (c .loop-test .left))
+returns-2 c = owner-stages (start (c .before) .pre) (copied (c .before) .copy .ensures) (taking-all (c .before .loop .inv) (omega (arith, c .loop-test .left)))
 
 pub stage-owner-spec : {M : Type 1} → statement M
 stage-owner-spec =

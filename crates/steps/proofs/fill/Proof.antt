@@ -27,7 +27,7 @@ extend-requires : tie.Need-extend-requires Inv-loop μ-loop
 extend-requires c κs =
     let loop = c .before .before in
     let pre = loop .before .before .before .before .before .before .pre in
-    (pre .0, filling-extendable (pre .1) (loop .loop .inv) (c .before .loop-test .taken))
+    (pre .0, filling-extendable (pre .1) (loop .loop .inv) (omega (arith, c .before .loop-test .taken)))
 
 add-next : tie.Need-add-next Inv-loop μ-loop
 add-next c = omega arith
@@ -46,13 +46,13 @@ loop-again c =
     let turn = c .before .before .before .before .before .before in
     let loop = turn .before in
     let pre = loop .before .before .before .before .before .before .pre .1 in
-    filling-next pre (filling-extend pre (loop .loop .inv) (turn .loop-test .taken) (c .before .before .before .before .extend .ensures)) (c .next2 .ensures)
+    filling-next pre (filling-extend pre (loop .loop .inv) (omega (arith, turn .loop-test .taken)) (c .before .before .before .before .extend .ensures)) (c .next2 .ensures)
 
 same-length : tie.Need-same-length Inv-loop μ-loop
 same-length c = c .before .loop .inv .keeps .len
 
 returns : tie.Need-returns Inv-loop μ-loop
-returns c = filling-all (c .before .loop .inv) (c .loop-test .left)
+returns c = filling-all (c .before .loop .inv) (omega (arith, c .loop-test .left))
 
 pub fill-spec : {M : Type 1} → statement M
 fill-spec =
