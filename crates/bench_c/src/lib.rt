@@ -3,7 +3,9 @@
 use build::Built;
 use model::QueryReply;
 ghost use mathlib.Core.Path.{_≡_};
+ghost use mathlib.Core.List.{[]};
 ghost use lib.ListN.{length};
+ghost use Rattle.calls.specs.Call.{lent};
 ghost use Rattle.calls.specs.Query.{queryCall};
 ghost use Rattle.sort.specs.Order.{Distinct, FiveBytes, Sorts};
 ghost use Rattle.order.specs.Counting.{Countable, Counts};
@@ -52,7 +54,7 @@ pub extern "C" fn bench_query(
     pattern: &[u8],
     index: &[u64],
 ) -> u32
-    ensures { λ r. ⌜ r ≡ answerNumber (queryCall vertices longest start destination (now (pattern .entry)) (now (index .entry))) ⌝ }
+    ensures { λ r. ⌜ r ≡ answerNumber (queryCall (record { vertices = vertices; longest = longest }) start destination (now (pattern .entry)) (lent [] (now (index .entry)) []) .reply) ⌝ }
 {
     let reply = query::query(vertices, longest, start, destination, pattern, index);
     match reply {

@@ -9,15 +9,15 @@ use native.Mathlib.Omega.{arith}
 use lib.Dec.{eqb, ltb}
 use lib.ListN.{length, getD, take, drop, length-drop, drop-of-length-le}
 use lib.Seq.{drop-cons, getD-take}
-use Rattle.model.specs.Lists.{_∈_, spread, Rising, none, next}
-use Rattle.model.specs.Limits.{mostVertices, mostEdges, mostLabel, mostLongest}
-use Rattle.model.specs.Edges.{edgeNumber, fromOf, labelOf, toOf, edge?}
+use Rattle.model.specs.Lists.{_∈_, spread, Rising, none, next, Bytes}
+use Rattle.model.specs.Limits.{mostVertices, mostEdges, mostLabel, mostLongest, headBytes}
+use Rattle.model.specs.Edges.{edgeNumber, fromOf, labelOf, toOf, edge?, Bounds}
 use Rattle.model.proofs.Tests.{Tests, test-map, test-and, test-le, test-lt, test-eq, test-same, test-true, test-false, test-yields}
 use Rattle.model.proofs.Lists.{in-getD}
 use Rattle.model.proofs.Edges.{edge-fields, test-edge}
 use Rattle.model.proofs.Memory.{edge-least}
-use Rattle.calls.specs.Change.{Header}
-use Rattle.calls.specs.Card.{Bytes, mark, wordAt, headBytes, edgeBytes, edgeAt, edgeAt?, cardOf, marked?, version?, headerOf, countOf, edgesOf, risingTriples?, cardEdges?, cardChecks, cardRefusal}
+use Rattle.calls.specs.Call.{Header}
+use Rattle.calls.specs.Card.{mark, wordAt, edgeBytes, edgeAt, edgeAt?, cardOf, marked?, version?, headerOf, countOf, edgesOf, risingTriples?, cardEdges?, cardChecks, cardRefusal}
 use Rattle.calls.proofs.Checks.{First, none as all-pass, pass, first-is, Passed, done, also, passes, test-ends, test-longest}
 
 -- the first of two tests
@@ -284,10 +284,7 @@ bytes-edges vertices few (x ∷ l) f =
 
 -- a header and rising edges of its graph, as a card holds them
 pub record Cardable (h : Header) (edges : List ℕ) : Type 0 where
-  pub vertices-least : 1 ≤ h .vertices
-  pub vertices-most : h .vertices ≤ mostVertices
-  pub longest-least : 1 ≤ h .longest
-  pub longest-most : h .longest ≤ mostLongest
+  pub bounds : Bounds (h .vertices) (h .longest)
   pub few : length edges ≤ mostEdges
   pub rising : Rising edges
   pub valid : (x : ℕ) → x ∈ edges → edge? (h .vertices) x ≡ true
@@ -304,7 +301,7 @@ pub record CardSays (card : List ℕ) (h : Header) (edges : List ℕ) : Type 0 w
 pub card-says : {h : Header} {edges : List ℕ} → Cardable h edges → CardSays (cardOf h edges) h edges
 unfolding cardOf
 card-says {h} {edges} c =
-    let vertices-are : h .vertices - 1 + 1 ≡ h .vertices = omega (arith, c .vertices-least) in
+    let vertices-are : h .vertices - 1 + 1 ≡ h .vertices = omega (arith, c .bounds .vertices-least) in
     let n : length edges / 256 * 256 + length edges % 256 ≡ length edges = omega arith in
     let size : length (cardOf h edges) ≡ headBytes + 3 * length edges = omega (arith, length-bytes edges) in
     let rises = triples-pass (h .vertices) 0 (c .rising) (λ x m. (omega (arith, edge-least (h .vertices) x (c .valid x m)), c .valid x m)) in
@@ -312,15 +309,15 @@ card-says {h} {edges} c =
       passes = card-is (cardOf h edges)
           (pass (test-true (test-marked (cardOf h edges)) (omega (arith, size), refl))
           (pass refl
-          (pass (test-true (test-longest (h .longest)) (c .longest-least, c .longest-most))
+          (pass (test-true (test-longest (h .longest)) (c .bounds .longest-least, c .bounds .longest-most))
           (pass (card-edges-body (cardOf h edges) (size ∙ ap (λ (k : ℕ). headBytes + 3 * k) (sym n)) ∙ rw vertices-are rises) all-pass))));
       header = ap (λ (v : ℕ). record { vertices = v; longest = h .longest }) vertices-are;
       count = n;
       edges-are = edges-bytes edges;
       bytes =
           bytes-cons (omega arith) (bytes-cons (omega arith) (bytes-cons (omega arith) (bytes-cons (omega arith) (bytes-cons (omega arith)
-          (bytes-cons (omega (arith, c .vertices-most)) (bytes-cons (omega (arith, c .longest-most))
-          (bytes-cons (omega (arith, c .few)) (bytes-cons (omega arith) (bytes-edges (h .vertices) (c .vertices-most) edges (c .valid))))))))));
+          (bytes-cons (omega (arith, c .bounds .vertices-most)) (bytes-cons (omega (arith, c .bounds .longest-most))
+          (bytes-cons (omega (arith, c .few)) (bytes-cons (omega arith) (bytes-edges (h .vertices) (c .bounds .vertices-most) edges (c .valid))))))))));
       size = size;
     }
 

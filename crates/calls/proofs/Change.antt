@@ -1,5 +1,5 @@
 -- Laws of the changing calls: checks one after another, what a refusal leaves, and what settling comes to.
-use mathlib.Core.Path.{_≡_, refl, sym}
+use mathlib.Core.Path.{_≡_, refl, sym, ap₂}
 use mathlib.Core.Bool.{Bool, true, false}
 use mathlib.Core.List.{List, [], _∷_, _++_}
 use Prim.Native.Nat.{ℕ, zero, suc, _+_, _≤_, _<_}
@@ -9,18 +9,18 @@ use lib.Dec.{T}
 use lib.ListN.{length}
 use Rattle.model.specs.Lists.{filled, zeroed}
 use Rattle.model.specs.Limits.{mostLabel, leastWork}
-use Rattle.model.specs.Edges.{edgeMemory?}
+use Rattle.model.specs.Edges.{edgeMemory?, Bounds}
 use Rattle.model.specs.Replies.{numberOf, answerOf}
 use Rattle.model.specs.Entries.{determined}
 use Rattle.model.specs.declared.Refusal.{Refusal}
 use Rattle.model.specs.declared.Answer.{Answer}
 use Rattle.model.specs.declared.Answer.the-variants.{Accepted, Refused}
-use Rattle.model.specs.declared.Refusal.the-variants.{IndexSlots}
 use Rattle.model.proofs.Tests.{test-and, test-le, test-true, test-false, test-yields}
 use Rattle.model.proofs.Replies.{number-some}
 use Rattle.calls.specs.Checks.{Check, firstRefusal}
-use Rattle.calls.specs.Change.{Header, graphOf, Memory, Handed, back, Change, changedWith, Leaves, fits?, settle, openRefusal, openCall, changeChecks, changeRefusal, insertRefusal, insertCall, removeRefusal, removeCall}
-use Rattle.calls.proofs.Checks.{numbered?, Passed, done, also, passes, Header as Bounds, test-vertices, test-longest, test-ends}
+use Rattle.calls.specs.Call.{Header, graphOf, Memory, Outcome, refusing, Meets}
+use Rattle.calls.specs.Change.{Returned, refusedWith, answers, fits?, settle, openRefusal, openCall, changeChecks, changeRefusal, insertRefusal, insertCall, removeRefusal, removeCall}
+use Rattle.calls.proofs.Checks.{numbered?, Passed, done, also, passes, test-vertices, test-longest, test-ends}
 
 -- ---- checks, and then further ones
 
@@ -42,7 +42,7 @@ pub front-passes : (l later : List Check) → firstRefusal (l ++ later) ≡ 0 �
 front-passes l later e = elim (decLt 0 (firstRefusal l)) [ yes h ↦ absurd (omega (arith, stop-first l later refl h, e, h)) | no h ↦ omega (arith, h) ]
 
 -- what the checks 1 to 6 leave
-pub record Good (h : Header) (from label to : ℕ) (m : Memory) : Type 0 where
+pub record ChangeGood (h : Header) (from label to : ℕ) (m : Memory) : Type 0 where
   pub header : Bounds (h .vertices) (h .longest)
   pub memory : edgeMemory? (h .vertices) (m .edges) ≡ true
   pub room : leastWork + length (m .index) ≤ length (m .work)
@@ -51,7 +51,7 @@ pub record Good (h : Header) (from label to : ℕ) (m : Memory) : Type 0 where
   pub label-least : 1 ≤ label
   pub label-most : label ≤ mostLabel
 
-good : (h : Header) (from label to : ℕ) (m : Memory) → Passed (changeChecks h from label to m) → Good h from label to m
+good : (h : Header) (from label to : ℕ) (m : Memory) → Passed (changeChecks h from label to m) → ChangeGood h from label to m
 good h from label to m (also vertices (also longest (also memory (also room (also ends (also a-label done)))))) =
     let (v, w) = test-yields (test-vertices (h .vertices)) vertices in
     let (k, l) = test-yields (test-longest (h .longest)) longest in
@@ -67,112 +67,116 @@ good h from label to m (also vertices (also longest (also memory (also room (als
       label-most = d;
     }
 
-pub change-good : (h : Header) (from label to : ℕ) (m : Memory) → changeRefusal h from label to m ≡ 0 → Good h from label to m
+pub change-good : (h : Header) (from label to : ℕ) (m : Memory) → changeRefusal h from label to m ≡ 0 → ChangeGood h from label to m
 unfolding changeRefusal
 change-good h from label to m e = good h from label to m (passes (changeChecks h from label to m) tt e)
 
--- ---- what a call leaves
+-- ---- what a changing call leaves: its answer alone, as a function that does not hand the record back tells it
 
-pub change-refused : (n : ℕ) (given : Handed) (m : Memory) (c : Change) (r : Refusal) → n ≡ numberOf r
-    → Leaves (changedWith n given m c) (Refused r) (m .edges) (m .index) (m .work)
+pub change-refused : (n : ℕ) (given : Header) (m : Memory) (c : Outcome Returned) (r : Refusal) → n ≡ numberOf r
+    → Meets (answers (refusing (refusedWith given) m n c)) (numberOf r) m
 change-refused zero given m c r e = absurd (let h = number-some r in omega arith)
-change-refused (suc n) given m c r e = record { answer = sym e; edges-after = refl; index-after = refl; work-after = refl }
+change-refused (suc n) given m c r e = record { reply-is = sym e; edges-after = refl; index-after = refl; work-after = refl; output-after = refl }
 
-pub change-accepted : (n : ℕ) (given : Handed) (m : Memory) (c : Change) → n ≡ 0 → changedWith n given m c ≡ c
-change-accepted zero given m c e = refl
-change-accepted (suc n) given m c e = absurd (omega arith)
-
--- the record handed back: the one given with a refusal, and with all answers where the call hands that one back
-pub refused-hands : (n : ℕ) (given : Handed) (m : Memory) (c : Change) → 1 ≤ n → changedWith n given m c .handed ≡ given
-refused-hands zero given m c h = absurd (omega arith)
-refused-hands (suc n) given m c h = refl
-
-hands-same : (n : ℕ) (given : Handed) (m : Memory) (c : Change) → c .handed ≡ given → changedWith n given m c .handed ≡ given
+-- the record handed back, if it is the one given with every answer
+hands-same : (n : ℕ) (given : Header) (m : Memory) (c : Outcome Returned) → c .reply .header ≡ given → refusing (refusedWith given) m n c .reply .header ≡ given
 hands-same zero given m c e = e
 hands-same (suc n) given m c e = refl
 
+-- the answer, and the record that is known to be handed back with it
+pub with-header : (c : Outcome Returned) {h : Header} {n : ℕ} {m : Memory} → c .reply .header ≡ h → Meets (answers c) n m → Meets c (record { header = h; answer = n }) m
+with-header c e l =
+    record {
+      reply-is = ap₂ (λ (k : Header) (i : ℕ). record { header = k; answer = i }) (sym e) (l .reply-is);
+      edges-after = l .edges-after;
+      index-after = l .index-after;
+      work-after = l .work-after;
+      output-after = l .output-after;
+    }
+
 -- ---- settling
 
--- the record that is handed back with an answer: the new one where it accepts, else the one given
-abbrev pub handedBy : Answer → Handed → Header → Handed
-handedBy Accepted given h = back h
+-- the record that is handed back with an answer: the new one if it accepts, else the one given
+abbrev pub handedBy : Answer → Header → Header → Header
+handedBy Accepted given h = h
 handedBy (Refused r) given h = given
 
-module _ (given : Handed) (h : Header) (wanted : List ℕ) (m : Memory) where
-  pub settle-fits : length (determined (graphOf h wanted)) ≤ length (m .index) → {edges index work : List ℕ}
-      → edges ≡ filled (length (m .edges)) wanted → index ≡ filled (length (m .index)) (determined (graphOf h wanted)) → work ≡ zeroed (m .work)
-      → Leaves (settle given h wanted m) Accepted edges index work
+module _ (given h : Header) (wanted : List ℕ) (m : Memory) where
+  pub settle-fits : length (determined (graphOf h wanted)) ≤ length (m .index) → {m′ : Memory}
+      → m′ .edges ≡ filled (length (m .edges)) wanted → m′ .index ≡ filled (length (m .index)) (determined (graphOf h wanted))
+      → m′ .work ≡ zeroed (m .work) → m′ .output ≡ m .output → Meets (answers (settle given h wanted m)) 0 m′
   unfolding settle
-  settle-fits l a b c = rw (fit l) (record { answer = refl; edges-after = a; index-after = b; work-after = c })
-    where
-      fit : length (determined (graphOf h wanted)) ≤ length (m .index) → fits? h wanted m ≡ true
-      fit l = test-true (test-le (length (determined (graphOf h wanted))) (length (m .index))) l
+  settle-fits l a b c d =
+      rw (test-true (test-le (length (determined (graphOf h wanted))) (length (m .index))) l)
+      (record { reply-is = refl; edges-after = a; index-after = b; work-after = c; output-after = d })
 
-  pub settle-short : length (m .index) < length (determined (graphOf h wanted)) → {work : List ℕ} → work ≡ zeroed (m .work)
-      → Leaves (settle given h wanted m) (Refused IndexSlots) (m .edges) (m .index) work
+  pub settle-short : length (m .index) < length (determined (graphOf h wanted)) → {m′ : Memory}
+      → m′ .edges ≡ m .edges → m′ .index ≡ m .index → m′ .work ≡ zeroed (m .work) → m′ .output ≡ m .output
+      → Meets (answers (settle given h wanted m)) 13 m′
   unfolding settle
-  settle-short l c = rw short (record { answer = refl; edges-after = refl; index-after = refl; work-after = c })
-    where
-      short : fits? h wanted m ≡ false
-      short = test-false (test-le (length (determined (graphOf h wanted))) (length (m .index))) (λ z. omega (arith, z, l))
+  settle-short l a b c d =
+      rw (test-false (test-le (length (determined (graphOf h wanted))) (length (m .index))) (λ z. omega (arith, z, l)))
+      (record { reply-is = refl; edges-after = a; index-after = b; work-after = c; output-after = d })
 
-  pub settle-hands : (r : Answer) → answerOf r ≡ settle given h wanted m .answer → settle given h wanted m .handed ≡ handedBy r given h
+  pub settle-hands : (r : Answer) → answerOf r ≡ settle given h wanted m .reply .answer → settle given h wanted m .reply .header ≡ handedBy r given h
   unfolding settle
   settle-hands r e = go (fits? h wanted m) refl r e
     where
-      go : (b : Bool) → fits? h wanted m ≡ b → (r : Answer) → answerOf r ≡ settle given h wanted m .answer
-          → settle given h wanted m .handed ≡ handedBy r given h
+      go : (b : Bool) → fits? h wanted m ≡ b → (r : Answer) → answerOf r ≡ settle given h wanted m .reply .answer
+          → settle given h wanted m .reply .header ≡ handedBy r given h
       go true q Accepted e = rw q refl
       go true q (Refused r) e = absurd (let a = number-some r in let z : numberOf r ≡ 0 = rw q at e in omega arith)
       go false q Accepted e = absurd (let z : 0 ≡ 13 = rw q at e in omega arith)
       go false q (Refused r) e = rw q refl
 
 -- what it leaves does not depend on the record given, nor on what work memory holds
-pub settle-same : (given given′ : Handed) (h : Header) (wanted : List ℕ) (m m′ : Memory) {r : Answer} {edges index work : List ℕ}
-    → m .edges ≡ m′ .edges → m .index ≡ m′ .index → length (m .work) ≡ length (m′ .work)
-    → Leaves (settle given h wanted m) r edges index work → Leaves (settle given′ h wanted m′) r edges index work
+pub settle-same : (given given′ h : Header) (wanted : List ℕ) (m m′ : Memory) {n : ℕ} {left : Memory}
+    → m .edges ≡ m′ .edges → m .index ≡ m′ .index → length (m .work) ≡ length (m′ .work) → m .output ≡ m′ .output
+    → Meets (answers (settle given h wanted m)) n left → Meets (answers (settle given′ h wanted m′)) n left
 unfolding settle
-settle-same given given′ h wanted m m′ {r} {edges} {index} {work} a b c v = go (fits? h wanted m) refl
+settle-same given given′ h wanted m m′ {n} {left} a b c d v = go (fits? h wanted m) refl
   where
-    go : (t : Bool) → fits? h wanted m ≡ t → Leaves (settle given′ h wanted m′) r edges index work
+    go : (t : Bool) → fits? h wanted m ≡ t → Meets (answers (settle given′ h wanted m′)) n left
     go true q =
         let q′ : fits? h wanted m′ ≡ true = rw (sym b) q in
         let v′ = rw q at v in
         rw q′ (record {
-          answer = v′ .answer;
+          reply-is = v′ .reply-is;
           edges-after = rw (sym a) (v′ .edges-after);
           index-after = rw (sym b) (v′ .index-after);
           work-after = rw (sym c) (v′ .work-after);
+          output-after = rw (sym d) (v′ .output-after);
         })
     go false q =
         let q′ : fits? h wanted m′ ≡ false = rw (sym b) q in
         let v′ = rw q at v in
         rw q′ (record {
-          answer = v′ .answer;
+          reply-is = v′ .reply-is;
           edges-after = rw (sym a) (v′ .edges-after);
           index-after = rw (sym b) (v′ .index-after);
           work-after = rw (sym c) (v′ .work-after);
+          output-after = rw (sym d) (v′ .output-after);
         })
 
 -- ---- opening, insertion and removal hand back the record given
 
-settle-back : (h : Header) (wanted : List ℕ) (m : Memory) → settle (back h) h wanted m .handed ≡ back h
+settle-back : (h : Header) (wanted : List ℕ) (m : Memory) → settle h h wanted m .reply .header ≡ h
 unfolding settle
 settle-back h wanted m = go (fits? h wanted m) refl
   where
-    go : (t : Bool) → fits? h wanted m ≡ t → settle (back h) h wanted m .handed ≡ back h
+    go : (t : Bool) → fits? h wanted m ≡ t → settle h h wanted m .reply .header ≡ h
     go true q = rw q refl
     go false q = rw q refl
 
 module _ (h : Header) (m : Memory) where
-  pub open-hands : openCall h m .handed ≡ back h
+  pub open-hands : openCall h m .reply .header ≡ h
   unfolding openCall
-  open-hands = hands-same (openRefusal h m) (back h) m _ refl
+  open-hands = hands-same (openRefusal h m) h m _ refl
 
-  pub insert-hands : (from label to : ℕ) → insertCall h from label to m .handed ≡ back h
+  pub insert-hands : (from label to : ℕ) → insertCall h from label to m .reply .header ≡ h
   unfolding insertCall
-  insert-hands from label to = hands-same (insertRefusal h from label to m) (back h) m _ (settle-back h _ m)
+  insert-hands from label to = hands-same (insertRefusal h from label to m) h m _ (settle-back h _ m)
 
-  pub remove-hands : (from label to : ℕ) → removeCall h from label to m .handed ≡ back h
+  pub remove-hands : (from label to : ℕ) → removeCall h from label to m .reply .header ≡ h
   unfolding removeCall
-  remove-hands from label to = hands-same (removeRefusal h from label to m) (back h) m _ (settle-back h _ m)
+  remove-hands from label to = hands-same (removeRefusal h from label to m) h m _ (settle-back h _ m)

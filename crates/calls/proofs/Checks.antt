@@ -1,12 +1,13 @@
 -- Laws of refusals: a check that passes hands on to the next, and one that does not gives its number.
-use mathlib.Core.Path.{_≡_, refl, subst, _∙_}
-use mathlib.Core.Bool.{Bool, true, false, cond}
+use mathlib.Core.Path.{_≡_, refl, subst}
+use mathlib.Core.Bool.{Bool, true, false}
 use mathlib.Core.List.{List, [], _∷_}
 use Prim.Native.Nat.{ℕ, zero, suc, _≤_, _<_}
 use native.Mathlib.Omega.{arith}
 use lib.Dec.{T}
 use Rattle.model.specs.Limits.{mostVertices, mostLongest}
-use Rattle.model.proofs.Tests.{Tests, test-and, test-le, test-lt, test-yields}
+use Rattle.model.specs.Edges.{Bounds}
+use Rattle.model.proofs.Tests.{Tests, test-and, test-le, test-lt, test-true, test-yields}
 use Rattle.calls.specs.Checks.{vertices?, longest?, ends?, Check, firstRefusal, headerRefusal}
 
 -- how a list of checks comes to its number
@@ -81,19 +82,21 @@ pub test-longest : (longest : ℕ) → Tests (longest? longest) ((1 ≤ longest)
 test-longest longest = test-and (test-le 1 longest) (test-le longest mostLongest)
 
 -- and leave
-pub record Header (vertices longest : ℕ) : Type 0 where
-  pub vertices-least : 1 ≤ vertices
-  pub vertices-most : vertices ≤ mostVertices
-  pub longest-least : 1 ≤ longest
-  pub longest-most : longest ≤ mostLongest
-
-pub header-good : (vertices longest : ℕ) → headerRefusal vertices longest ≡ 0 → Header vertices longest
-unfolding headerRefusal
-header-good vertices longest e =
-    let p = both-pass (vertices? vertices) (longest? longest) e in
-    let v = test-yields (test-vertices vertices) (p .first) in
-    let k = test-yields (test-longest longest) (p .second) in
+pub bounded : {vertices longest : ℕ} → vertices? vertices ≡ true → longest? longest ≡ true → Bounds vertices longest
+bounded {vertices} {longest} p q =
+    let v = test-yields (test-vertices vertices) p in
+    let k = test-yields (test-longest longest) q in
     record { vertices-least = v .0; vertices-most = v .1; longest-least = k .0; longest-most = k .1 }
+
+pub header-good : (vertices longest : ℕ) → headerRefusal vertices longest ≡ 0 → Bounds vertices longest
+unfolding headerRefusal
+header-good vertices longest e = let p = both-pass (vertices? vertices) (longest? longest) e in bounded (p .first) (p .second)
+
+-- within those bounds they pass
+pub bounds-pass : {vertices longest : ℕ} {later : List Check} {n : ℕ} → Bounds vertices longest → First later n
+    → First ((1, vertices? vertices) ∷ (2, longest? longest) ∷ later) n
+bounds-pass {vertices} {longest} b f =
+    pass (test-true (test-vertices vertices) (b .vertices-least, b .vertices-most)) (pass (test-true (test-longest longest) (b .longest-least, b .longest-most)) f)
 
 -- start and destination
 pub test-ends : (vertices s t : ℕ) → Tests (ends? vertices s t) ((s < vertices) × (t < vertices))

@@ -1,6 +1,5 @@
 pub mod Checks
-pub mod Search
-pub mod Query
+pub mod Calls
 pub mod Change
 pub mod Card
 pub mod Settling

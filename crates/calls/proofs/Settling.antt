@@ -1,5 +1,5 @@
 -- What a call comes to that ends in settling: accepted where every check passes and the entries fit, else refused with the first number.
-use mathlib.Core.Path.{_≡_, refl, sym, ap, _∙_}
+use mathlib.Core.Path.{_≡_, refl, ap}
 use mathlib.Core.Bool.{Bool, true, false}
 use mathlib.Core.List.{List, [], _∷_, _++_}
 use Prim.Native.Nat.{ℕ, zero, suc, _≤_}
@@ -9,74 +9,64 @@ use lib.ListN.{length}
 use Rattle.model.specs.Lists.{filled, zeroed}
 use Rattle.model.specs.Entries.{determined}
 use Rattle.calls.specs.Checks.{Check, firstRefusal}
-use Rattle.calls.specs.Change.{Header, graphOf, Memory, Handed, back, Change, changedWith, fits?, settle}
+use Rattle.calls.specs.Call.{Header, graphOf, Memory, Outcome, refusing}
+use Rattle.calls.specs.Change.{Returned, refusedWith, fits?, settle}
 use Rattle.calls.proofs.Checks.{numbered?}
 use Rattle.calls.proofs.Change.{stop-first, pass-first}
 
--- what is left where a change is accepted
-abbrev pub settledChange : Header → List ℕ → Memory → Change
+-- what is left if a change is accepted
+abbrev pub settledChange : Header → List ℕ → Memory → Outcome Returned
 settledChange h wanted m =
     record {
-      handed = back h;
-      answer = 0;
+      reply = record { header = h; answer = 0 };
       memory = record {
         edges = filled (length (m .edges)) wanted;
         index = filled (length (m .index)) (determined (graphOf h wanted));
         work = zeroed (m .work);
+        output = m .output;
       };
     }
 
--- the change is `done` where the number is 0, else a refusal with that number that leaves edge and index memory
-pub record Result (c : Change) (given : Handed) (m : Memory) (done : Change) (n : ℕ) : Type 0 where
+-- the change is `done` if the number is 0, else a refusal with that number that leaves edge and index memory
+pub record Result (c : Outcome Returned) (given : Header) (m : Memory) (done : Outcome Returned) (n : ℕ) : Type 0 where
   pub accepted : n ≡ 0 → c ≡ done
-  pub answer : 1 ≤ n → c .answer ≡ n
-  pub handed : 1 ≤ n → c .handed ≡ given
+  pub reply : 1 ≤ n → c .reply ≡ refusedWith given n
   pub edges : 1 ≤ n → c .memory .edges ≡ m .edges
   pub index : 1 ≤ n → c .memory .index ≡ m .index
 
-pub with-number : (n : ℕ) (given : Handed) (m : Memory) (done : Change) → Result (changedWith n given m done) given m done n
+pub with-number : (n : ℕ) (given : Header) (m : Memory) (done : Outcome Returned) → Result (refusing (refusedWith given) m n done) given m done n
 with-number zero given m done =
-    record {
-      accepted = λ _. refl;
-      answer = λ h. absurd (omega arith);
-      handed = λ h. absurd (omega arith);
-      edges = λ h. absurd (omega arith);
-      index = λ h. absurd (omega arith);
-    }
-with-number (suc n) given m done =
-    record { accepted = λ e. absurd (omega arith); answer = λ _. refl; handed = λ _. refl; edges = λ _. refl; index = λ _. refl }
+    record { accepted = λ _. refl; reply = λ h. absurd (omega arith); edges = λ h. absurd (omega arith); index = λ h. absurd (omega arith) }
+with-number (suc n) given m done = record { accepted = λ e. absurd (omega arith); reply = λ _. refl; edges = λ _. refl; index = λ _. refl }
 
-module _ (given : Handed) (h : Header) (wanted : List ℕ) (m : Memory) where
+-- a change that answers that it is accepted
+pub accepted-zero : {c : Outcome Returned} {given : Header} {m : Memory} {done : Outcome Returned} (n : ℕ) → Result c given m done n → c .reply .answer ≡ 0 → n ≡ 0
+accepted-zero zero r e = refl
+accepted-zero (suc n) r e = absurd (let z = ap (λ (x : Returned). x .answer) (r .reply (omega arith)) in omega (arith, z, e))
+
+module _ (given h : Header) (wanted : List ℕ) (m : Memory) where
+  abbrev thirteen : List Check
+  thirteen = (13, fits? h wanted m) ∷ []
+
   -- settling alone: its only check is 13
-  settle-result : Result (settle given h wanted m) given m (settledChange h wanted m) (firstRefusal ((13, fits? h wanted m) ∷ []))
+  settle-result : Result (settle given h wanted m) given m (settledChange h wanted m) (firstRefusal thirteen)
   unfolding settle firstRefusal
   settle-result = go (fits? h wanted m) refl
     where
-      go : (b : Bool) → fits? h wanted m ≡ b
-          → Result (settle given h wanted m) given m (settledChange h wanted m) (firstRefusal ((13, fits? h wanted m) ∷ []))
+      go : (b : Bool) → fits? h wanted m ≡ b → Result (settle given h wanted m) given m (settledChange h wanted m) (firstRefusal thirteen)
       go true e =
-          rw e (record {
-            accepted = λ _. refl;
-            answer = λ h. absurd (omega arith);
-            handed = λ h. absurd (omega arith);
-            edges = λ h. absurd (omega arith);
-            index = λ h. absurd (omega arith);
-          })
-      go false e = rw e (record { accepted = λ e. absurd (omega arith); answer = λ _. refl; handed = λ _. refl; edges = λ _. refl; index = λ _. refl })
+          rw e (record { accepted = λ _. refl; reply = λ h. absurd (omega arith); edges = λ h. absurd (omega arith); index = λ h. absurd (omega arith) })
+      go false e = rw e (record { accepted = λ e. absurd (omega arith); reply = λ _. refl; edges = λ _. refl; index = λ _. refl })
 
   pub settled : (l : List Check) → T (numbered? l)
-      → Result (changedWith (firstRefusal l) given m (settle given h wanted m)) given m (settledChange h wanted m)
+      → Result (refusing (refusedWith given) m (firstRefusal l) (settle given h wanted m)) given m (settledChange h wanted m)
       (firstRefusal (l ++ ((13, fits? h wanted m) ∷ [])))
   settled l q = go (firstRefusal l) refl
     where
-      last : List Check
-      last = (13, fits? h wanted m) ∷ []
-
       go : (n : ℕ) → firstRefusal l ≡ n
-          → Result (changedWith (firstRefusal l) given m (settle given h wanted m)) given m (settledChange h wanted m) (firstRefusal (l ++ last))
-      go zero e = rw (e, pass-first l last q e) settle-result
+          → Result (refusing (refusedWith given) m (firstRefusal l) (settle given h wanted m)) given m (settledChange h wanted m) (firstRefusal (l ++ thirteen))
+      go zero e = rw (e, pass-first l thirteen q e) settle-result
       go (suc n) e =
-          let k : 1 ≤ suc n = omega arith in
-          let stops : firstRefusal (l ++ last) ≡ suc n = stop-first l last e k in
+          let stops : firstRefusal (l ++ thirteen) ≡ suc n = stop-first l thirteen e (omega arith) in
           let r = with-number (suc n) given m (settledChange h wanted m) in
-          rw (e, stops) (record { accepted = λ z. absurd (omega arith); answer = r .answer; handed = r .handed; edges = r .edges; index = r .index })
+          rw (e, stops) (record { accepted = λ z. absurd (omega arith); reply = r .reply; edges = r .edges; index = r .index })

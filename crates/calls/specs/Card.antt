@@ -1,19 +1,15 @@
 -- The layout card (document 01): its bytes, and reading and writing it as calls on lent memory.
-use mathlib.Core.Path.{_≡_}
 use mathlib.Core.Bool.{Bool, true, false, _&&_}
 use mathlib.Core.List.{List, [], _∷_, _++_}
-use Prim.Native.Nat.{ℕ, zero, suc, _+_, _-_, _*_, _/_, _%_, _<_}
+use Prim.Native.Nat.{ℕ, suc, _+_, _-_, _*_, _/_, _%_}
 use lib.Dec.{eqb, ltb, leb}
 use lib.ListN.{length, getD, take, drop}
-use Rattle.model.specs.Lists.{_∈_, same?, spread}
-use Rattle.model.specs.Limits.{mostEdges}
+use Rattle.model.specs.Lists.{same?, spread}
+use Rattle.model.specs.Limits.{mostEdges, headBytes, tripleBytes}
 use Rattle.model.specs.Edges.{edgeNumber, fromOf, labelOf, toOf, label?, edgeMemory?, standing}
 use Rattle.calls.specs.Checks.{vertices?, longest?, ends?, Check, firstRefusal}
-use Rattle.calls.specs.Change.{Header, Memory, back, none, Change, changedWith, buildRoom?, settle}
-
--- a byte is below 256
-abbrev pub Bytes : List ℕ → Type 0
-Bytes l = (x : ℕ) → x ∈ l → x < 256
+use Rattle.calls.specs.Call.{Header, Memory, Outcome, refusing}
+use Rattle.calls.specs.Change.{Returned, refusedWith, buildRoom?, settle}
 
 -- "the mark PRC"
 abbrev pub mark : List ℕ
@@ -25,10 +21,6 @@ wordBytes n = n / 256 ∷ n % 256 ∷ []
 
 abbrev pub wordAt : List ℕ → ℕ → ℕ
 wordAt bytes i = getD bytes i 0 * 256 + getD bytes (suc i) 0
-
--- mark, version, vertices (places) less one, k and the count of edges (legs) are 9 bytes; each edge is 3
-abbrev pub headBytes : ℕ
-headBytes = 9
 
 -- "then from, colour, to for each leg in rising order"
 abbrev pub edgeBytes : ℕ → List ℕ
@@ -78,7 +70,7 @@ risingTriples? vertices prev (from ∷ label ∷ to ∷ more) =
 
 -- "16 length not 9 + 3 × legs, or legs not rising legs of this layout"
 unfoldable pub cardEdges? : List ℕ → Bool
-cardEdges? card = eqb (length card) (headBytes + 3 * countOf card) && risingTriples? (headerOf card .vertices) 0 (drop headBytes card)
+cardEdges? card = eqb (length card) (headBytes + tripleBytes * countOf card) && risingTriples? (headerOf card .vertices) 0 (drop headBytes card)
 
 -- ---- reading
 
@@ -97,35 +89,38 @@ readRefusal card m =
     ++ ((3, leb (length (m .edges)) mostEdges) ∷ (9, leb (countOf card) (length (m .edges))) ∷ (4, buildRoom? m) ∷ [])
     )
 
+-- "for a card, no record": a record that is all zero stands for none
+abbrev pub noRecord : Header
+noRecord = record { vertices = 0; longest = 0 }
+
 -- "Reading a card fills leg and index memory as if a fresh layout had received those legs; 13 looks at the finished index only."
-unfoldable pub readCall : List ℕ → Memory → Change
-readCall card m = changedWith (readRefusal card m) none m (settle none (headerOf card) (edgesOf (drop headBytes card)) m)
+unfoldable pub readCall : List ℕ → Memory → Outcome Returned
+readCall card m =
+    refusing (refusedWith noRecord) m (readRefusal card m) (settle noRecord (headerOf card) (edgesOf (drop headBytes card)) m)
 
 -- ---- writing
 
 -- "Write card 1 2 3 17"
-unfoldable pub writeRefusal : (h : Header) (edges output : List ℕ) → ℕ
-writeRefusal h edges output =
+unfoldable pub writeRefusal : Header → Memory → ℕ
+writeRefusal h m =
     firstRefusal (
     (1, vertices? (h .vertices))
     ∷ (2, longest? (h .longest))
-    ∷ (3, edgeMemory? (h .vertices) edges)
-    ∷ (17, leb (headBytes + 3 * length (standing edges)) (length output))
+    ∷ (3, edgeMemory? (h .vertices) (m .edges))
+    ∷ (17, leb (headBytes + tripleBytes * length (standing (m .edges))) (length (m .output)))
     ∷ []
     )
 
--- the card's length, or the number of the refusal, and the output afterwards
+-- the card's length, or the number of the refusal
 pub data Wrote : Type 0 where
   Length Refused : ℕ → Wrote
 
-pub record Written : Type 0 where
-  pub reply : Wrote
-  pub output : List ℕ
-
-abbrev pub writtenWith : ℕ → List ℕ → List ℕ → Written
-writtenWith zero card output = record { reply = Length (length card); output = card ++ drop (length card) output }
-writtenWith (suc n) card output = record { reply = Refused (suc n); output = output }
-
 -- "A written card touches only its own length of the output, and its length is returned."
-unfoldable pub writeCall : (h : Header) (edges output : List ℕ) → Written
-writeCall h edges output = writtenWith (writeRefusal h edges output) (cardOf h (standing edges)) output
+unfoldable pub writeCall : Header → Memory → Outcome Wrote
+writeCall h m =
+    let card = cardOf h (standing (m .edges)) in
+    refusing Refused m (writeRefusal h m)
+    (record {
+      reply = Length (length card);
+      memory = record { edges = m .edges; index = m .index; work = m .work; output = card ++ drop (length card) (m .output) };
+    })

@@ -1,4 +1,5 @@
 pub mod Checks
+pub mod Call
 pub mod Search
 pub mod Query
 pub mod Change

@@ -1,34 +1,32 @@
 -- The question (query) as a call: its reply. Nothing that is lent is changed.
 use mathlib.Core.Bool.{Bool, true, false}
 use mathlib.Core.List.{List, [], _∷_}
-use Prim.Native.Nat.{ℕ, zero, suc}
+use Prim.Native.Nat.{ℕ}
 use Rattle.model.specs.Patterns.{keyed?, minRepeat}
 use Rattle.model.specs.Query.{indexMemory?, answers?, Answered, Yes, No, Refused}
 use Rattle.calls.specs.Checks.{vertices?, longest?, ends?, firstRefusal}
-
--- what the call is given: the header's vertices and k, start and destination, the pattern as keyed, and index memory
-module _ (vertices longest start destination : ℕ) (pattern index : List ℕ) where
-  -- "Question 1 2 10 11 12."
-  unfoldable pub queryRefusal : ℕ
-  queryRefusal =
-      firstRefusal (
-      (1, vertices? vertices)
-      ∷ (2, longest? longest)
-      ∷ (10, ends? vertices start destination)
-      ∷ (11, keyed? longest pattern)
-      ∷ (12, indexMemory? vertices longest index)
-      ∷ []
-      )
+use Rattle.calls.specs.Call.{Header, Memory, Outcome, refusing}
 
 abbrev pub saying : Bool → Answered
 saying true = Yes
 saying false = No
 
-abbrev pub queriedWith : ℕ → Answered → Answered
-queriedWith zero answer = answer
-queriedWith (suc n) answer = Refused (suc n)
+-- what the call is given: the record, start and destination, the pattern as keyed, and memory
+module _ (h : Header) (start destination : ℕ) (pattern : List ℕ) (m : Memory) where
+  -- "Question 1 2 10 11 12."
+  unfoldable pub queryRefusal : ℕ
+  queryRefusal =
+      firstRefusal (
+      (1, vertices? (h .vertices))
+      ∷ (2, longest? (h .longest))
+      ∷ (10, ends? (h .vertices) start destination)
+      ∷ (11, keyed? (h .longest) pattern)
+      ∷ (12, indexMemory? (h .vertices) (h .longest) (m .index))
+      ∷ []
+      )
 
--- the question is put with the pattern's minimum repeat
-unfoldable pub queryCall : (vertices longest start destination : ℕ) (pattern index : List ℕ) → Answered
-queryCall vertices longest start destination pattern index =
-    queriedWith (queryRefusal vertices longest start destination pattern index) (saying (answers? vertices index (minRepeat pattern) start destination))
+  -- "Before any question or plain check a pattern is folded to its minimum repeat"
+  unfoldable pub queryCall : Outcome Answered
+  queryCall =
+      refusing Refused m queryRefusal
+      (record { reply = saying (answers? (h .vertices) (m .index) (minRepeat pattern) start destination); memory = m })

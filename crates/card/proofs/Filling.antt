@@ -6,9 +6,10 @@ use native.Mathlib.Nat.{le-of-eq}
 use native.Mathlib.Omega.{arith}
 use lib.ListN.{length, getD, take, drop, set, replicate, length-drop, drop-of-length-le, List·getD-append}
 use lib.Seq.{take-at, drop-at, getD-drop}
+use Rattle.model.specs.Limits.{headBytes, tripleBytes}
 use Rattle.model.specs.Lists.{filled, zeroed}
 use Rattle.model.proofs.Lists.{part-all}
-use Rattle.calls.specs.Card.{headBytes, edgeAt, edgesOf}
+use Rattle.calls.specs.Card.{edgeAt, edgesOf}
 use Rattle.calls.proofs.Card.{length-edges, getD-edges}
 use Rattle.edges.proofs.Mix.{Mixed, front-turn}
 use Rattle.card.specs.Card.{Fillable}
@@ -30,21 +31,21 @@ module _ {card edges : List ℕ} {n : ℕ} (p : Fillable card n edges) where
   abbrev pub cardEdges : List ℕ
   cardEdges = edgesOf (drop headBytes card)
 
-  body-size : length (drop headBytes card) ≡ 3 * n
+  body-size : length (drop headBytes card) ≡ tripleBytes * n
   body-size = length-drop headBytes card ∙ omega (arith, p .whole)
 
   pub card-edges-size : length cardEdges ≡ n
   card-edges-size = length-edges n (drop headBytes card) body-size
 
-  pub fill-turn : {cur : List ℕ} {i v : ℕ} → Mixed (cardEdges ++ drop (length cardEdges) edges) edges cur i → i < n → v ≡ edgeAt card (headBytes + 3 * i)
+  pub fill-turn : {cur : List ℕ} {i v : ℕ} → Mixed (cardEdges ++ drop (length cardEdges) edges) edges cur i → i < n → v ≡ edgeAt card (headBytes + tripleBytes * i)
       → Mixed (cardEdges ++ drop (length cardEdges) edges) edges (set cur i v) (i + 1)
   fill-turn {cur} {i} {v} m h e = front-turn m (omega (arith, m .size, p .room)) (e ∙ sym (there ∙ here))
     where
       there : getD (cardEdges ++ drop (length cardEdges) edges) i 0 ≡ getD cardEdges i 0
       there = List·getD-append cardEdges (drop (length cardEdges) edges) 0 i (omega (arith, card-edges-size, h))
 
-      here : getD cardEdges i 0 ≡ edgeAt card (headBytes + 3 * i)
+      here : getD cardEdges i 0 ≡ edgeAt card (headBytes + tripleBytes * i)
       here =
-          let a : headBytes + (3 * i + 1) ≡ headBytes + 3 * i + 1 = omega arith in
-          let b : headBytes + (3 * i + 2) ≡ headBytes + 3 * i + 2 = omega arith in
+          let a : headBytes + (tripleBytes * i + 1) ≡ headBytes + tripleBytes * i + 1 = omega arith in
+          let b : headBytes + (tripleBytes * i + 2) ≡ headBytes + tripleBytes * i + 2 = omega arith in
           getD-edges (drop headBytes card) i (omega (arith, body-size, h)) ∙ simp (getD-drop, a, b)

@@ -5,13 +5,14 @@ use Prim.Native.Nat.{ℕ, _+_, _-_, _*_, _≤_, _<_}
 use native.Mathlib.Omega.{arith}
 use lib.ListN.{length, getD, take, drop, set, length-drop, List·getD-append}
 use lib.Seq.{drop-drop}
+use Rattle.model.specs.Limits.{headBytes, tripleBytes}
 use Rattle.model.specs.Lists.{spread}
 use Rattle.model.specs.Edges.{fromOf, labelOf, toOf}
 use Rattle.model.proofs.Tests.{test-yields}
 use Rattle.model.proofs.Edges.{test-edge}
 use Rattle.model.proofs.Lists.{getD-in, part-all}
-use Rattle.calls.specs.Change.{Header}
-use Rattle.calls.specs.Card.{headBytes, edgeBytes, cardOf}
+use Rattle.calls.specs.Call.{Header}
+use Rattle.calls.specs.Card.{edgeBytes, cardOf}
 use Rattle.calls.proofs.Card.{length-bytes, getD-bytes}
 use Rattle.edges.proofs.Mix.{Mixed, front-turn}
 use Rattle.edges.proofs.Copying.{save-start, save-end}
@@ -35,26 +36,26 @@ module _ {edges out : List ℕ} (p : Body edges out) where
   pub edge-narrow : (i : ℕ) → i < length edges → fromOf (getD edges i 0) < 256
   edge-narrow i h = p .narrow (getD edges i 0) (getD-in edges i h)
 
-  module _ {cur : List ℕ} {i : ℕ} (m : Mixed (bytesOver edges out) out cur (3 * i)) where
+  module _ {cur : List ℕ} {i : ℕ} (m : Mixed (bytesOver edges out) out cur (tripleBytes * i)) where
     pub body-turn : i < length edges
         → Mixed (bytesOver edges out) out
-        (set (set (set cur (3 * i) (fromOf (getD edges i 0))) (3 * i + 1) (labelOf (getD edges i 0))) (3 * i + 2) (toOf (getD edges i 0)))
-        (3 * (i + 1))
+        (set (set (set cur (tripleBytes * i) (fromOf (getD edges i 0))) (tripleBytes * i + 1) (labelOf (getD edges i 0))) (tripleBytes * i + 2) (toOf (getD edges i 0)))
+        (tripleBytes * (i + 1))
     body-turn h =
         let r = getD-bytes edges i h in
-        let one : 3 * i + 1 + 1 ≡ 3 * i + 2 = omega arith in
-        let two : 3 * i + 2 + 1 ≡ 3 * (i + 1) = omega arith in
-        let a = front-turn m (room m (3 * i) (omega arith)) (sym (at (3 * i) (omega arith) ∙ r .from)) in
-        let b = rw one at (front-turn a (room a (3 * i + 1) (omega arith)) (sym (at (3 * i + 1) (omega arith) ∙ r .label))) in
-        rw two at (front-turn b (room b (3 * i + 2) (omega arith)) (sym (at (3 * i + 2) (omega arith) ∙ r .to)))
+        let one : tripleBytes * i + 1 + 1 ≡ tripleBytes * i + 2 = omega arith in
+        let two : tripleBytes * i + 2 + 1 ≡ tripleBytes * (i + 1) = omega arith in
+        let a = front-turn m (room m (tripleBytes * i) (omega arith)) (sym (at (tripleBytes * i) (omega arith) ∙ r .from)) in
+        let b = rw one at (front-turn a (room a (tripleBytes * i + 1) (omega arith)) (sym (at (tripleBytes * i + 1) (omega arith) ∙ r .label))) in
+        rw two at (front-turn b (room b (tripleBytes * i + 2) (omega arith)) (sym (at (tripleBytes * i + 2) (omega arith) ∙ r .to)))
       where
-        at : (k : ℕ) → k < 3 * length edges → getD (bytesOver edges out) k 0 ≡ getD (bytes edges) k 0
+        at : (k : ℕ) → k < tripleBytes * length edges → getD (bytesOver edges out) k 0 ≡ getD (bytes edges) k 0
         at k u = List·getD-append (bytes edges) (drop (length (bytes edges)) out) 0 k (omega (arith, length-bytes edges, u))
 
-        room : {l : List ℕ} {j : ℕ} → Mixed (bytesOver edges out) out l j → (k : ℕ) → k < 3 * length edges → k < length l
+        room : {l : List ℕ} {j : ℕ} → Mixed (bytesOver edges out) out l j → (k : ℕ) → k < tripleBytes * length edges → k < length l
         room n k u = omega (arith, n .size, p .room, u)
 
-    pub body-end : length edges ≤ i → cur ≡ bytes edges ++ drop (3 * length edges) out
+    pub body-end : length edges ≤ i → cur ≡ bytes edges ++ drop (tripleBytes * length edges) out
     body-end h =
         save-end (bytes edges) out bytes-room m (omega (arith, length-bytes edges, h))
         ∙ ap (λ (k : ℕ). bytes edges ++ drop k out) (length-bytes edges)
@@ -65,7 +66,7 @@ module _ {h : Header} {edges output : List ℕ} (p : Writable h edges output) wh
       → Body edges (take (length out - headBytes) (drop headBytes out))
   body-lent {out} e =
       record {
-        narrow = λ x m. omega (arith, (test-yields (test-edge (h .vertices) x) (p .valid x m)) .from, p .vertices-most);
+        narrow = λ x m. omega (arith, (test-yields (test-edge (h .vertices) x) (p .valid x m)) .from, p .bounds .vertices-most);
         room =
             let size : length (take (length out - headBytes) (drop headBytes out)) ≡ length output - headBytes =
             ap length (part-all out headBytes ∙ ap (drop headBytes) e) ∙ length-drop headBytes output in
@@ -73,13 +74,13 @@ module _ {h : Header} {edges output : List ℕ} (p : Writable h edges output) wh
       }
 
   pub card-written : {out part : List ℕ} → out ≡ headOf (h .vertices) (h .longest) (length edges) ++ drop headBytes output
-      → part ≡ spread edgeBytes edges ++ drop (3 * length edges) (take (length out - headBytes) (drop headBytes out))
-      → take headBytes out ++ (part ++ drop (length out - headBytes) (drop headBytes out)) ≡ cardOf h edges ++ drop (headBytes + 3 * length edges) output
+      → part ≡ spread edgeBytes edges ++ drop (tripleBytes * length edges) (take (length out - headBytes) (drop headBytes out))
+      → take headBytes out ++ (part ++ drop (length out - headBytes) (drop headBytes out)) ≡ cardOf h edges ++ drop (headBytes + tripleBytes * length edges) output
   unfolding cardOf
   card-written {out} {part} e f =
       let behind : take (length out - headBytes) (drop headBytes out) ≡ drop headBytes output = part-all out headBytes ∙ ap (drop headBytes) e in
-      let rest : part ≡ spread edgeBytes edges ++ drop (headBytes + 3 * length edges) output =
-      f ∙ ap (λ (l : List ℕ). spread edgeBytes edges ++ drop (3 * length edges) l) behind
-      ∙ ap (λ (l : List ℕ). spread edgeBytes edges ++ l) (drop-drop (3 * length edges) headBytes output) in
+      let rest : part ≡ spread edgeBytes edges ++ drop (headBytes + tripleBytes * length edges) output =
+      f ∙ ap (λ (l : List ℕ). spread edgeBytes edges ++ drop (tripleBytes * length edges) l) behind
+      ∙ ap (λ (l : List ℕ). spread edgeBytes edges ++ l) (drop-drop (tripleBytes * length edges) headBytes output) in
       part-last out part headBytes ∙ ap (λ (l : List ℕ). take headBytes l ++ part) e
       ∙ ap (λ (l : List ℕ). headOf (h .vertices) (h .longest) (length edges) ++ l) rest

@@ -5,50 +5,59 @@ use mathlib.Core.List.{List, [], _∷_, _++_}
 use Prim.Native.Nat.{ℕ, _+_, _-_, _*_, _≤_, _<_}
 use lib.ListN.{length}
 use Rattle.model.specs.Lists.{_∈_}
-use Rattle.model.specs.Limits.{mostVertices, mostEdges, mostLongest}
-use Rattle.model.specs.Edges.{fromOf, edge?}
+use Rattle.model.specs.Limits.{mostEdges, headBytes, tripleBytes}
+use Rattle.model.specs.Edges.{Bounds, fromOf, edge?}
 use Rattle.model.specs.Replies.{numberOf}
-use Rattle.calls.specs.Change.{Header}
-use Rattle.calls.specs.Card.{mark, wordBytes, headBytes, headerOf, countOf, cardRefusal}
+use Rattle.calls.specs.Call.{Header, Memory}
+use Rattle.calls.specs.Card.{mark, wordBytes, headerOf, countOf, cardRefusal, writeRefusal}
+use Rattle.checks.specs.declared.Standing.{Standing}
+use Rattle.checks.specs.declared.Standing.the-variants.{Edges, Refused as NotStanding}
+use Rattle.checks.specs.LayoutChecks.{LayoutPasses}
 use Rattle.card.specs.declared.Checked.{Checked}
 use Rattle.card.specs.declared.Checked.the-variants.{Layout, Refused}
 
 -- all checks of the card alone have passed: its header, and the number of its edges
-pub record Passes (card : List ℕ) (h : Header) (n : ℕ) : Type 0 where
+pub record CardPasses (card : List ℕ) (h : Header) (n : ℕ) : Type 0 where
   pub is : cardRefusal card ≡ 0
   pub header : h ≡ headerOf card
   pub count : n ≡ countOf card
 
-abbrev pub Checks : List ℕ → Checked → Type 0
-Checks card (Layout vertices longest n) = Passes card (record { vertices = vertices; longest = longest }) n
-Checks card (Refused r) = cardRefusal card ≡ numberOf r
+abbrev pub CardChecks : List ℕ → Checked → Type 0
+CardChecks card (Layout vertices longest n) = CardPasses card (record { vertices = vertices; longest = longest }) n
+CardChecks card (Refused r) = cardRefusal card ≡ numberOf r
 
 -- the n edges of a card have slots
 pub record Fillable (card : List ℕ) (n : ℕ) (edges : List ℕ) : Type 0 where
-  pub whole : length card ≡ headBytes + 3 * n
+  pub whole : length card ≡ headBytes + tripleBytes * n
   pub room : n ≤ length edges
 
 -- a header and edges of its graph, whose card the output has room for
 pub record Writable (h : Header) (edges output : List ℕ) : Type 0 where
-  pub vertices-least : 1 ≤ h .vertices
-  pub vertices-most : h .vertices ≤ mostVertices
-  pub longest-most : h .longest ≤ mostLongest
+  pub bounds : Bounds (h .vertices) (h .longest)
   pub few : length edges ≤ mostEdges
   pub valid : (x : ℕ) → x ∈ edges → edge? (h .vertices) x ≡ true
-  pub room : headBytes + 3 * length edges ≤ length output
+  pub room : headBytes + tripleBytes * length edges ≤ length output
 
 -- the first nine bytes of a card with n edges, and what fits in them
 abbrev pub headOf : ℕ → ℕ → ℕ → List ℕ
 headOf vertices longest n = mark ++ wordBytes 1 ++ ((vertices - 1) ∷ longest ∷ []) ++ wordBytes n
 
 pub record Head (vertices longest n : ℕ) (output : List ℕ) : Type 0 where
-  pub vertices-least : 1 ≤ vertices
-  pub vertices-most : vertices ≤ mostVertices
-  pub longest-most : longest ≤ mostLongest
+  pub bounds : Bounds vertices longest
   pub few : n ≤ mostEdges
   pub room : headBytes ≤ length output
 
 -- edges whose ends are bytes, with room for three bytes each
 pub record Body (edges output : List ℕ) : Type 0 where
   pub narrow : (x : ℕ) → x ∈ edges → fromOf x < 256
-  pub room : 3 * length edges ≤ length output
+  pub room : tripleBytes * length edges ≤ length output
+
+-- all checks of a card that is written have passed, and n edges stand
+pub record WritePasses (h : Header) (m : Memory) (n : ℕ) : Type 0 where
+  pub is : writeRefusal h m ≡ 0
+  pub layout : LayoutPasses (h .vertices) (h .longest) (m .edges) n
+  pub room : headBytes + tripleBytes * n ≤ length (m .output)
+
+abbrev pub WriteChecks : Header → Memory → Standing → Type 0
+WriteChecks h m (Edges n) = WritePasses h m n
+WriteChecks h m (NotStanding r) = writeRefusal h m ≡ numberOf r

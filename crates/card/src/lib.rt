@@ -1,16 +1,16 @@
 // The layout card: checks of its bytes, its edges read into edge memory, and a card written.
+use checks::Standing;
+use model::HEAD_BYTES;
 use model::Refusal;
+use model::TRIPLE_BYTES;
 ghost use mathlib.Core.Path.{_≡_};
-ghost use mathlib.Core.List.{_++_};
-ghost use mathlib.Core.Bool.{Bool};
+ghost use mathlib.Core.List.{[], _++_};
 ghost use Prim.Native.Nat.{_+_, _*_, _%_, _≤_, _<_};
 ghost use lib.ListN.{length, drop};
+ghost use Rattle.model.specs.Limits.{headBytes, tripleBytes};
 ghost use Rattle.model.specs.Lists.{filled, spread};
-ghost use Rattle.calls.specs.Card.{headBytes, marked?, wordAt, edgeBytes, edgeAt, edgeAt?, edgesOf, risingTriples?, cardEdges?, cardOf};
-ghost use Rattle.card.specs.Card.{Checks, Fillable, Head, headOf, Body, Writable};
-
-// Mark, version, vertices less one, k and edge count; each edge is 3 bytes behind them.
-const HEAD: usize = 9;
+ghost use Rattle.calls.specs.Card.{marked?, wordAt, edgeBytes, edgeAt, edgeAt?, edgesOf, risingTriples?, cardEdges?, cardOf};
+ghost use Rattle.card.specs.Card.{CardChecks, WriteChecks, Fillable, Head, headOf, Body, Writable};
 
 // What the checks of a card alone find: vertices, k and how many edges, or the refusal.
 pub enum Checked {
@@ -21,7 +21,7 @@ pub enum Checked {
 fn is_marked(card: &[u8]) -> bool
     ensures { λ r. ⌜ r ≡ marked? (now (card .entry)) ⌝ }
 {
-    if card.len() < HEAD {
+    if card.len() < HEAD_BYTES {
         return false;
     }
     if card[0] != 80 {
@@ -67,7 +67,7 @@ fn edge_at(bytes: &[u8], at: usize) -> u32
 
 // Whether the edges named by the bytes are rising edges of a layout with so many vertices.
 fn are_rising(vertices: u32, body: &[u8]) -> bool
-    requires { ⌜ length (now body) % 3 ≡ 0 ⌝ }
+    requires { ⌜ length (now body) % tripleBytes ≡ 0 ⌝ }
     ensures { λ r. ⌜ r ≡ risingTriples? vertices 0 (now (body .entry)) ⌝ }
 {
     let mut prev: u32 = 0;
@@ -79,7 +79,7 @@ fn are_rising(vertices: u32, body: &[u8]) -> bool
                 return false;
             }
             prev = x;
-            i += 3;
+            i += TRIPLE_BYTES;
         } else {
             return false;
         }
@@ -93,15 +93,15 @@ fn has_edges(card: &[u8]) -> bool
     ensures { λ r. ⌜ r ≡ cardEdges? (now (card .entry)) ⌝ }
 {
     let n = word(card, 7) as usize;
-    if card.len() != HEAD + 3 * n {
+    if card.len() != HEAD_BYTES + TRIPLE_BYTES * n {
         return false;
     }
-    are_rising(card[5] as u32 + 1, &card[HEAD..])
+    are_rising(card[5] as u32 + 1, &card[HEAD_BYTES..])
 }
 
 // The checks of the card alone, in their order: 14 15 2 16.
 pub fn check(card: &[u8]) -> Checked
-    ensures { λ r. ⌜ Checks (now (card .entry)) r ⌝ }
+    ensures { λ r. ⌜ CardChecks (now (card .entry)) r ⌝ }
 {
     if is_marked(card) {
         if word(card, 3) != 1 {
@@ -126,7 +126,7 @@ pub fn fill(card: &[u8], n: usize, edges: &mut [u32])
 {
     let mut i = 0;
     while i < n {
-        edges[i] = edge_at(card, HEAD + 3 * i);
+        edges[i] = edge_at(card, HEAD_BYTES + TRIPLE_BYTES * i);
         i += 1;
     }
     edges::clear_edges(&mut edges[n..]);
@@ -151,12 +151,12 @@ fn write_head(vertices: u32, longest: u32, n: usize, output: &mut [u8])
 // From, label and to of each edge.
 fn write_edges(edges: &[u32], output: &mut [u8])
     requires { ⌜ Body (now edges) (now output) ⌝ }
-    ensures { λ _. ⌜ now (output .exit) ≡ spread edgeBytes (now (edges .entry)) ++ drop (3 * length (now (edges .entry))) (now (output .entry)) ⌝ }
+    ensures { λ _. ⌜ now (output .exit) ≡ spread edgeBytes (now (edges .entry)) ++ drop (tripleBytes * length (now (edges .entry))) (now (output .entry)) ⌝ }
 {
     let mut i = 0;
     while i < edges.len() {
         let x = edges[i];
-        let at = 3 * i;
+        let at = TRIPLE_BYTES * i;
         output[at] = (x / 4096) as u8;
         output[at + 1] = (x / 256 % 16) as u8;
         output[at + 2] = (x % 256) as u8;
@@ -169,9 +169,26 @@ pub fn write(vertices: u32, longest: u32, edges: &[u32], output: &mut [u8])
     requires { ⌜ Writable (record { vertices = vertices; longest = longest }) (now edges) (now output) ⌝ }
     ensures { λ _. ⌜
         now (output .exit) ≡ cardOf (record { vertices = vertices; longest = longest }) (now (edges .entry))
-        ++ drop (headBytes + 3 * length (now (edges .entry))) (now (output .entry))
+        ++ drop (headBytes + tripleBytes * length (now (edges .entry))) (now (output .entry))
         ⌝ }
 {
     write_head(vertices, longest, edges.len(), output);
-    write_edges(edges, &mut output[HEAD..]);
+    write_edges(edges, &mut output[HEAD_BYTES..]);
+}
+
+// The checks of a card that is written: 1 2 3 17.
+pub fn check_write(vertices: u32, longest: u32, edges: &[u32], output: &[u8]) -> Standing
+    ensures { λ r. ⌜
+        WriteChecks (record { vertices = vertices; longest = longest })
+        (record { edges = now (edges .entry); index = []; work = []; output = now (output .entry) }) r
+        ⌝ }
+{
+    let layout = checks::check_layout(vertices, longest, edges);
+    let Standing::Edges(n) = layout else {
+        return layout;
+    };
+    if output.len() < HEAD_BYTES + TRIPLE_BYTES * n {
+        return Standing::Refused(Refusal::CardOutput);
+    }
+    Standing::Edges(n)
 }

@@ -2,20 +2,19 @@
 use mathlib.Core.Path.{_≡_, refl}
 use mathlib.Core.Logic.{⊎-elim}
 use mathlib.Core.Bool.{true}
-use mathlib.Core.List.{List}
 use Prim.Native.Nat.{ℕ, _+_, _-_}
 use native.Mathlib.Omega.{arith}
 use Rattle.model.specs.Lists.{zeroed}
 use Rattle.model.specs.Edges.{edgeNumber, edge?, standing, insertEdge, removeEdge}
 use Rattle.model.specs.Replies.{numberOf}
 use Rattle.model.specs.declared.Refusal.{Refusal}
-use Rattle.model.specs.declared.Answer.{Answer}
-use Rattle.model.specs.declared.Answer.the-variants.{Accepted, Refused}
 use Rattle.model.proofs.Edges.{edge-fields, test-edge}
 use Rattle.model.proofs.Tests.{test-true}
 use Rattle.edges.proofs.Memory.{length-insert, member-insert, rising-insert, length-remove, member-remove, rising-remove}
-use Rattle.calls.specs.Change.{Header, Memory, back, Leaves, settle, openRefusal, openCall, insertRefusal, insertCall, removeRefusal, removeCall}
-use Rattle.calls.proofs.Change.{Good, change-refused, change-accepted}
+use Rattle.calls.specs.Call.{Header, Memory, Meets}
+use Rattle.calls.specs.Change.{refusedWith, answers, settle, openRefusal, openCall, insertRefusal, insertCall, removeRefusal, removeCall}
+use Rattle.calls.proofs.Change.{ChangeGood, change-refused}
+use Rattle.calls.proofs.Calls.{accepted-is}
 use Rattle.named.specs.Named.{Places, Takes}
 use Rattle.named.proofs.Naming.{good, memory, places-absent, takes-present}
 use Rattle.changes.proofs.Trying.{Wanted}
@@ -23,31 +22,31 @@ use Rattle.changes.proofs.Trying.{Wanted}
 -- ---- opening
 
 module _ (h : Header) (m : Memory) where
-  pub open-stops : (r : Refusal) → openRefusal h m ≡ numberOf r → Leaves (openCall h m) (Refused r) (m .edges) (m .index) (m .work)
+  pub open-stops : (r : Refusal) → openRefusal h m ≡ numberOf r → Meets (answers (openCall h m)) (numberOf r) m
   unfolding openCall
-  open-stops r e = change-refused (openRefusal h m) (back h) m _ r e
+  open-stops r e = change-refused (openRefusal h m) h m _ r e
 
-  pub open-leaves : {edges index : List ℕ} → openRefusal h m ≡ 0 → edges ≡ zeroed (m .edges) → index ≡ zeroed (m .index)
-      → Leaves (openCall h m) Accepted edges index (m .work)
+  pub open-leaves : {m′ : Memory} → openRefusal h m ≡ 0 → m′ .edges ≡ zeroed (m .edges) → m′ .index ≡ zeroed (m .index) → m′ .work ≡ m .work
+      → m′ .output ≡ m .output → Meets (answers (openCall h m)) 0 m′
   unfolding openCall
-  open-leaves e a b =
-      rw (change-accepted (openRefusal h m) (back h) m _ e) (record { answer = refl; edges-after = a; index-after = b; work-after = refl })
+  open-leaves e a b c d =
+      rw (accepted-is (refusedWith h) m _ (openRefusal h m) e) (record { reply-is = refl; edges-after = a; index-after = b; work-after = c; output-after = d })
 
 -- ---- insertion and removal
 
 -- a refusal leaves memory alone
 module _ (h : Header) (from label to : ℕ) (m : Memory) where
-  pub insert-stops : (r : Refusal) → insertRefusal h from label to m ≡ numberOf r → Leaves (insertCall h from label to m) (Refused r) (m .edges) (m .index) (m .work)
+  pub insert-stops : (r : Refusal) → insertRefusal h from label to m ≡ numberOf r → Meets (answers (insertCall h from label to m)) (numberOf r) m
   unfolding insertCall
-  insert-stops r e = change-refused (insertRefusal h from label to m) (back h) m _ r e
+  insert-stops r e = change-refused (insertRefusal h from label to m) h m _ r e
 
-  pub remove-stops : (r : Refusal) → removeRefusal h from label to m ≡ numberOf r → Leaves (removeCall h from label to m) (Refused r) (m .edges) (m .index) (m .work)
+  pub remove-stops : (r : Refusal) → removeRefusal h from label to m ≡ numberOf r → Meets (answers (removeCall h from label to m)) (numberOf r) m
   unfolding removeCall
-  remove-stops r e = change-refused (removeRefusal h from label to m) (back h) m _ r e
+  remove-stops r e = change-refused (removeRefusal h from label to m) h m _ r e
 
 module _ {h : Header} {from label to : ℕ} {m : Memory} where
   -- the named edge is one of the graph
-  named-edge : Good h from label to m → edge? (h .vertices) (edgeNumber from label to) ≡ true
+  named-edge : ChangeGood h from label to m → edge? (h .vertices) (edgeNumber from label to) ≡ true
   named-edge g =
       let (a, b, c) = edge-fields from label to (omega (arith, g .label-most)) (omega (arith, g .to-vertex, g .header .vertices-most)) in
       test-true (test-edge (h .vertices) (edgeNumber from label to)) (record {
@@ -73,11 +72,11 @@ module _ {h : Header} {from label to : ℕ} {m : Memory} where
           room = g .room;
         }
 
-    pub insert-leaves : Places h from label to m n at → {r : Answer} {edges index work : List ℕ}
-        → Leaves (settle (back h) h (insertEdge (edgeNumber from label to) (standing (m .edges))) m) r edges index work
-        → Leaves (insertCall h from label to m) r edges index work
+    pub insert-leaves : Places h from label to m n at → {k : ℕ} {left : Memory}
+        → Meets (answers (settle h h (insertEdge (edgeNumber from label to) (standing (m .edges))) m)) k left
+        → Meets (answers (insertCall h from label to m)) k left
     unfolding insertCall
-    insert-leaves p l = rw (change-accepted (insertRefusal h from label to m) (back h) m _ (p .is)) l
+    insert-leaves p l = rw (accepted-is (refusedWith h) m _ (insertRefusal h from label to m) (p .is)) l
 
     pub remove-wanted : Takes h from label to m n at → Wanted h (removeEdge (edgeNumber from label to) (standing (m .edges))) m (n - 1)
     remove-wanted p =
@@ -94,8 +93,8 @@ module _ {h : Header} {from label to : ℕ} {m : Memory} where
           room = g .room;
         }
 
-    pub remove-leaves : Takes h from label to m n at → {r : Answer} {edges index work : List ℕ}
-        → Leaves (settle (back h) h (removeEdge (edgeNumber from label to) (standing (m .edges))) m) r edges index work
-        → Leaves (removeCall h from label to m) r edges index work
+    pub remove-leaves : Takes h from label to m n at → {k : ℕ} {left : Memory}
+        → Meets (answers (settle h h (removeEdge (edgeNumber from label to) (standing (m .edges))) m)) k left
+        → Meets (answers (removeCall h from label to m)) k left
     unfolding removeCall
-    remove-leaves p l = rw (change-accepted (removeRefusal h from label to m) (back h) m _ (p .is)) l
+    remove-leaves p l = rw (accepted-is (refusedWith h) m _ (removeRefusal h from label to m) (p .is)) l

@@ -1,22 +1,23 @@
 -- From the checks of a card reading to the wanted edges, and from what settling leaves to what the call leaves.
-use mathlib.Core.Path.{_≡_, sym, ap, _∙_}
+use mathlib.Core.Path.{_≡_, sym, _∙_}
 use mathlib.Core.Bool.{true, false}
 use mathlib.Core.List.{List, [], _∷_}
 use Prim.Native.Nat.{ℕ, _+_, _≤_, _<_}
 use native.Mathlib.Omega.{arith}
 use lib.Dec.{leb}
 use lib.ListN.{length, getD, drop}
-use Rattle.model.specs.Limits.{mostEdges, leastWork}
+use Rattle.model.specs.Limits.{mostEdges, leastWork, headBytes}
 use Rattle.model.specs.Replies.{numberOf, answerOf}
 use Rattle.model.specs.declared.Refusal.{Refusal}
 use Rattle.model.specs.declared.Answer.{Answer}
-use Rattle.model.specs.declared.Answer.the-variants.{Refused}
 use Rattle.model.proofs.Replies.{number-some}
 use Rattle.model.proofs.Tests.{test-le, test-true, test-false, test-yields}
-use Rattle.calls.specs.Change.{Header, Memory, none as no-record, Change, buildRoom?, Leaves, settle}
-use Rattle.calls.specs.Card.{headBytes, headerOf, countOf, edgesOf, cardChecks, cardRefusal, readRefusal, readCall}
+use Rattle.calls.specs.Call.{Header, Memory, Meets}
+use Rattle.calls.specs.Change.{refusedWith, answers, buildRoom?, settle}
+use Rattle.calls.specs.Card.{headerOf, countOf, edgesOf, cardChecks, cardRefusal, readRefusal, readCall, noRecord}
 use Rattle.calls.proofs.Checks.{none, pass, stop, first-is, Passed, done, also, passes}
-use Rattle.calls.proofs.Change.{stop-first, pass-first, front-passes, change-refused, change-accepted, refused-hands, handedBy, settle-hands}
+use Rattle.calls.proofs.Change.{stop-first, pass-first, front-passes, handedBy, with-header, settle-hands}
+use Rattle.calls.proofs.Calls.{refused-meets, accepted-is}
 use Rattle.calls.proofs.Card.{CardGood, card-good, triples-good}
 use Rattle.card.specs.Card.{Fillable}
 use Rattle.changes.specs.Changes.{Reads}
@@ -58,20 +59,20 @@ module _ (card : List ℕ) (m : Memory) where
             ∙ first-is (pass (test-true (test-le (length (m .edges)) mostEdges) few) (pass (test-true (test-le (countOf card) (length (m .edges))) fits) (pass h none)))
 
 -- what they leave
-record Good (card : List ℕ) (m : Memory) : Type 0 where
+record ReadGood (card : List ℕ) (m : Memory) : Type 0 where
   alone : CardGood card
   few : length (m .edges) ≤ mostEdges
   fits : countOf card ≤ length (m .edges)
   room : leastWork + length (m .index) ≤ length (m .work)
 
-good : (card : List ℕ) (m : Memory) → readRefusal card m ≡ 0 → Good card m
+good : (card : List ℕ) (m : Memory) → readRefusal card m ≡ 0 → ReadGood card m
 unfolding cardRefusal readRefusal
 good card m e = go (passes _ tt (sym (pass-first (cardChecks card) _ tt alone) ∙ e))
   where
     alone : cardRefusal card ≡ 0
     alone = front-passes (cardChecks card) _ e
 
-    go : Passed ((3, leb (length (m .edges)) mostEdges) ∷ (9, leb (countOf card) (length (m .edges))) ∷ (4, buildRoom? m) ∷ []) → Good card m
+    go : Passed ((3, leb (length (m .edges)) mostEdges) ∷ (9, leb (countOf card) (length (m .edges))) ∷ (4, buildRoom? m) ∷ []) → ReadGood card m
     go (also a (also b (also c done))) =
         record {
           alone = card-good card alone;
@@ -81,10 +82,6 @@ good card m e = go (passes _ tt (sym (pass-first (cardChecks card) _ tt alone) �
         }
 
 -- ---- the edges of the card, and what is left
-
--- by an answer that is known
-pub leaves-as : {c : Change} {r r′ : Answer} {edges index work : List ℕ} → r ≡ r′ → Leaves c r edges index work → Leaves c r′ edges index work
-leaves-as e l = record { answer = ap answerOf (sym e) ∙ l .answer; edges-after = l .edges-after; index-after = l .index-after; work-after = l .work-after }
 
 module _ {card : List ℕ} {m : Memory} {h : Header} {n : ℕ} (p : Reads card m h n) where
   pub read-fillable : Fillable card n (m .edges)
@@ -104,20 +101,14 @@ module _ {card : List ℕ} {m : Memory} {h : Header} {n : ℕ} (p : Reads card m
         room = g .room;
       })
 
-  module _ {r : Answer} {edges index work : List ℕ} (l : Leaves (settle no-record h (edgesOf (drop headBytes card)) m) r edges index work) where
-    pub read-leaves : Leaves (readCall card m) r edges index work
-    unfolding readCall
-    read-leaves = rw (change-accepted (readRefusal card m) no-record m _ (p .is)) (rw (p .header) at l)
-
-    pub read-hands : readCall card m .handed ≡ handedBy r no-record h
-    unfolding readCall
-    read-hands = rw (change-accepted (readRefusal card m) no-record m _ (p .is), sym (p .header)) (settle-hands no-record h (edgesOf (drop headBytes card)) m r (l .answer))
-
-module _ (card : List ℕ) (m : Memory) (r : Refusal) (e : readRefusal card m ≡ numberOf r) where
-  pub refused-leaves : Leaves (readCall card m) (Refused r) (m .edges) (m .index) (m .work)
+  -- by an answer that is known
+  pub read-leaves : (r : Answer) {m′ : Memory} → Meets (answers (settle noRecord h (edgesOf (drop headBytes card)) m)) (answerOf r) m′
+      → Meets (readCall card m) (record { header = handedBy r noRecord h; answer = answerOf r }) m′
   unfolding readCall
-  refused-leaves = change-refused (readRefusal card m) no-record m _ r e
+  read-leaves r l =
+      rw (accepted-is (refusedWith noRecord) m _ (readRefusal card m) (p .is), sym (p .header))
+      (with-header (settle noRecord h (edgesOf (drop headBytes card)) m) (settle-hands noRecord h (edgesOf (drop headBytes card)) m r (l .reply-is)) l)
 
-  pub refused-none : readCall card m .handed ≡ no-record
-  unfolding readCall
-  refused-none = refused-hands (readRefusal card m) no-record m _ (omega (arith, e, number-some r))
+pub refused-leaves : (card : List ℕ) (m : Memory) (r : Refusal) → readRefusal card m ≡ numberOf r → Meets (readCall card m) (refusedWith noRecord (numberOf r)) m
+unfolding readCall
+refused-leaves card m r e = refused-meets (refusedWith noRecord) m _ (readRefusal card m) r e

@@ -1,21 +1,21 @@
 -- A change that is tried: edge memory is saved in work memory, the wanted edges are written in its place, and the change is settled.
 use mathlib.Core.Path.{_≡_, refl, sym, ap, _∙_}
 use mathlib.Core.Bool.{true}
-use mathlib.Core.List.{List}
+use mathlib.Core.List.{List, []}
 use Prim.Native.Nat.{ℕ, _+_, _≤_}
 use native.Mathlib.Omega.{arith}
 use lib.ListN.{length, take, drop}
 use lib.Seq.{take-at}
 use Rattle.model.specs.Lists.{_∈_, Rising, filled}
 use Rattle.model.specs.Limits.{mostEdges, leastWork}
-use Rattle.model.specs.Edges.{edge?}
-use Rattle.model.specs.declared.Answer.{Answer}
+use Rattle.model.specs.Edges.{edge?, Bounds}
 use Rattle.model.proofs.Memory.{length-filled}
 use Rattle.rows.specs.Region.{savedNumbers}
-use Rattle.calls.specs.Change.{Header, Memory, Handed, none, Leaves, settle}
-use Rattle.calls.proofs.Checks.{Header as Bounds}
+use Rattle.calls.specs.Call.{Header, Memory, lent, Meets}
+use Rattle.calls.specs.Change.{answers, settle}
+use Rattle.calls.specs.Card.{noRecord}
 use Rattle.calls.proofs.Change.{settle-same}
-use Rattle.settle.specs.Settle.{savedIn, Saves, Settleable, Settles}
+use Rattle.settle.specs.Settle.{savedIn, Saves, Settleable}
 
 -- n wanted edges, and memory as the call finds it
 pub record Wanted (h : Header) (wanted : List ℕ) (m : Memory) (n : ℕ) : Type 0 where
@@ -51,8 +51,7 @@ module _ {h : Header} {wanted : List ℕ} {m : Memory} {n : ℕ} {edges work : L
   pub settleable : Settleable h n edges (m .index) work
   settleable =
       record {
-        bounds = let b = w .header in
-            record { vertices-least = b .vertices-least; vertices-most = b .vertices-most; longest-least = b .longest-least; longest-most = b .longest-most };
+        bounds = w .header;
         few = omega (arith, long, w .few);
         fits = omega (arith, long, w .count, w .fits);
         zeros = rw (long, front) (t .edges-are);
@@ -62,8 +61,6 @@ module _ {h : Header} {wanted : List ℕ} {m : Memory} {n : ℕ} {edges work : L
         narrow = rw saved-is (t .saves .narrow);
       }
 
-  pub settled : (given : Handed) {r : Answer} {edges′ index′ work′ : List ℕ} → Settles h n edges (m .index) work r edges′ index′ work′
-      → Leaves (settle given h wanted m) r edges′ index′ work′
-  settled given {r} {edges′} {index′} {work′} s =
-      let q : Leaves (settle none h wanted (record { edges = savedIn work edges; index = m .index; work = work })) r edges′ index′ work′ = rw front at s in
-      settle-same none given h wanted _ m saved-is refl (t .saves .work-long) q
+  pub settled : (given : Header) {k : ℕ} {left : Memory} → m .output ≡ []
+      → Meets (answers (settle noRecord h (take n edges) (lent (savedIn work edges) (m .index) work))) k left → Meets (answers (settle given h wanted m)) k left
+  settled given e s = settle-same noRecord given h wanted _ m saved-is refl (t .saves .work-long) (sym e) (rw front at s)

@@ -2,8 +2,9 @@
 use mathlib.Core.Path.{_≡_}
 use mathlib.Core.List.{List}
 use Prim.Native.Nat.{ℕ}
-use Rattle.model.specs.Replies.{numberOf}
-use Rattle.calls.specs.Change.{Header, Memory, Change, numbersOf, Leaves}
+use Rattle.model.specs.Replies.{numberOf, answerOf}
+use Rattle.calls.specs.Call.{Header, Memory}
+use Rattle.calls.specs.Change.{Returned}
 use Rattle.calls.specs.Card.{headerOf, countOf, readRefusal}
 use Rattle.changes.specs.declared.CardRead.{CardRead}
 use Rattle.changes.specs.declared.Layout.{Layout}
@@ -19,7 +20,6 @@ abbrev pub Readings : (card : List ℕ) → Memory → Layout → Type 0
 Readings card m (Holds vertices longest n) = Reads card m (record { vertices = vertices; longest = longest }) n
 Readings card m (LayoutRefused r) = readRefusal card m ≡ numberOf r
 
--- the numbers handed back, the answer and memory afterwards are the definition's
-pub record CardMeets (c : Change) (r : CardRead) (edges index work : List ℕ) : Type 0 where
-  pub header : record { vertices = r .vertices; longest = r .longest } ≡ numbersOf (c .handed)
-  pub leaves : Leaves c (r .answer) edges index work
+-- what a card reading returns
+abbrev pub cardReturned : CardRead → Returned
+cardReturned r = record { header = record { vertices = r .vertices; longest = r .longest }; answer = answerOf (r .answer) }

@@ -2,14 +2,15 @@
 // which read only; then edge memory is saved, the wanted edges are written, and `settle` does the rest.
 use card::Checked;
 use model::Answer;
+use model::MOST_EDGES;
 use model::Refusal;
 use named::Slot;
 ghost use mathlib.Core.List.{[]};
-ghost use Rattle.calls.specs.Change.{Leaves, openCall, insertCall, removeCall};
+ghost use Rattle.model.specs.Replies.{answerOf};
+ghost use Rattle.calls.specs.Call.{lent, Meets};
+ghost use Rattle.calls.specs.Change.{answers, openCall, insertCall, removeCall};
 ghost use Rattle.calls.specs.Card.{readCall};
-ghost use Rattle.changes.specs.Changes.{Readings, CardMeets};
-
-const MOST_EDGES: usize = 1024;
+ghost use Rattle.changes.specs.Changes.{Readings, cardReturned};
 
 // A card's vertices, longest pattern and number of edges, or the refusal.
 enum Layout {
@@ -21,7 +22,7 @@ enum Layout {
 fn check_read(card: &[u8], edges: &[u32], index: &[u64], work: &[u64]) -> Layout
     ensures { λ r. ⌜
         Readings (now (card .entry))
-        (record { edges = now (edges .entry); index = now (index .entry); work = now (work .entry) }) r
+        (lent (now (edges .entry)) (now (index .entry)) (now (work .entry))) r
         ⌝ }
 {
     let checked = card::check(card);
@@ -45,9 +46,8 @@ fn check_read(card: &[u8], edges: &[u32], index: &[u64], work: &[u64]) -> Layout
 // Opening.
 pub fn open(vertices: u32, longest: u32, edges: &mut [u32], index: &mut [u64]) -> Answer
     ensures { λ r. ⌜
-        Leaves (openCall (record { vertices = vertices; longest = longest })
-        (record { edges = now (edges .entry); index = now (index .entry); work = [] }))
-        r (now (edges .exit)) (now (index .exit)) []
+        Meets (answers (openCall (record { vertices = vertices; longest = longest }) (lent (now (edges .entry)) (now (index .entry)) [])))
+        (answerOf r) (lent (now (edges .exit)) (now (index .exit)) [])
         ⌝ }
 {
     let header = checks::check_header(vertices, longest);
@@ -74,9 +74,9 @@ pub fn insert(
     work: &mut [u64],
 ) -> Answer
     ensures { λ r. ⌜
-        Leaves (insertCall (record { vertices = vertices; longest = longest }) from label to
-        (record { edges = now (edges .entry); index = now (index .entry); work = now (work .entry) }))
-        r (now (edges .exit)) (now (index .exit)) (now (work .exit))
+        Meets (answers (insertCall (record { vertices = vertices; longest = longest }) from label to
+        (lent (now (edges .entry)) (now (index .entry)) (now (work .entry)))))
+        (answerOf r) (lent (now (edges .exit)) (now (index .exit)) (now (work .exit)))
         ⌝ }
 {
     let slot = named::check_insert(vertices, longest, from, label, to, edges, index, work);
@@ -102,9 +102,9 @@ pub fn remove(
     work: &mut [u64],
 ) -> Answer
     ensures { λ r. ⌜
-        Leaves (removeCall (record { vertices = vertices; longest = longest }) from label to
-        (record { edges = now (edges .entry); index = now (index .entry); work = now (work .entry) }))
-        r (now (edges .exit)) (now (index .exit)) (now (work .exit))
+        Meets (answers (removeCall (record { vertices = vertices; longest = longest }) from label to
+        (lent (now (edges .entry)) (now (index .entry)) (now (work .entry)))))
+        (answerOf r) (lent (now (edges .exit)) (now (index .exit)) (now (work .exit)))
         ⌝ }
 {
     let slot = named::check_remove(vertices, longest, from, label, to, edges, index, work);
@@ -118,7 +118,7 @@ pub fn remove(
     }
 }
 
-// A card reading's answer, with the card's numbers where it is accepted and zeros, no record, where it is refused.
+// A card reading's answer, with the card's numbers if it is accepted and zeros, no record, if it is refused.
 pub struct CardRead {
     pub vertices: u32,
     pub longest: u32,
@@ -128,9 +128,8 @@ pub struct CardRead {
 // Card reading.
 pub fn read(card: &[u8], edges: &mut [u32], index: &mut [u64], work: &mut [u64]) -> CardRead
     ensures { λ r. ⌜
-        CardMeets (readCall (now (card .entry))
-        (record { edges = now (edges .entry); index = now (index .entry); work = now (work .entry) }))
-        r (now (edges .exit)) (now (index .exit)) (now (work .exit))
+        Meets (readCall (now (card .entry)) (lent (now (edges .entry)) (now (index .entry)) (now (work .entry))))
+        (cardReturned r) (lent (now (edges .exit)) (now (index .exit)) (now (work .exit)))
         ⌝ }
 {
     let layout = check_read(card, edges, index, work);

@@ -2,13 +2,13 @@
 use mathlib.Core.Path.{_≡_, _∙_}
 use mathlib.Core.List.{List, [], _∷_}
 use Prim.Native.Nat.{ℕ}
-use Rattle.model.specs.Edges.{edgeMemory?}
+use Rattle.model.specs.Edges.{edgeMemory?, Bounds}
 use Rattle.model.specs.Replies.{numberOf}
 use Rattle.model.specs.declared.Refusal.{Refusal}
 use Rattle.model.proofs.Replies.{number-some}
 use Rattle.edges.proofs.Memory.{Scans, scans}
 use Rattle.calls.specs.Checks.{vertices?, longest?, Check, firstRefusal, headerRefusal}
-use Rattle.calls.proofs.Checks.{Header, First, first-is, header-good}
+use Rattle.calls.proofs.Checks.{First, first-is, header-good}
 use Rattle.calls.proofs.Change.{stop-first, pass-first, front-passes}
 use Rattle.checks.specs.LayoutChecks.{layoutRefusal, LayoutPasses}
 
@@ -26,7 +26,7 @@ module _ {vertices longest n : ℕ} {edges : List ℕ} (p : LayoutPasses vertice
       pass-first ((1, vertices? vertices) ∷ (2, longest? longest) ∷ (3, edgeMemory? vertices edges) ∷ []) later tt (p .is) ∙ first-is f
 
   -- what they leave
-  pub layout-header : Header vertices longest
+  pub layout-header : Bounds vertices longest
   unfolding layoutRefusal headerRefusal
   layout-header =
       header-good vertices longest (front-passes ((1, vertices? vertices) ∷ (2, longest? longest) ∷ []) ((3, edgeMemory? vertices edges) ∷ []) (p .is))

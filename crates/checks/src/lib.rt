@@ -1,6 +1,7 @@
 // The checks that calls share: the record (1 and 2), then edge memory (3), room to build (4), ends (5 and 10), and a label (6).
 use edges::Scanned;
 use model::Answer;
+use model::LEAST_WORK;
 use model::Refusal;
 ghost use mathlib.Core.Path.{_≡_};
 ghost use mathlib.Core.Bool.{Bool};
@@ -12,13 +13,12 @@ ghost use Rattle.model.specs.Limits.{leastWork};
 ghost use Rattle.calls.specs.Checks.{headerRefusal, longest?, ends?};
 ghost use Rattle.checks.specs.LayoutChecks.{Layouts};
 
-const MOST_VERTICES: u32 = 256;
+// The model's numbers, in the width of what is checked.
+const MOST_VERTICES: u32 = model::MOST_VERTICES as u32;
 
-const MOST_LONGEST: u32 = 4;
+const MOST_LONGEST: u32 = model::MOST_LONGEST as u32;
 
-const MOST_LABEL: u32 = 8;
-
-const LEAST_WORK: usize = 4096;
+const MOST_LABEL: u32 = model::MOST_LABEL as u32;
 
 // How many edges stand, or the refusal.
 pub enum Standing {

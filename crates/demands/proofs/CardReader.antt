@@ -1,20 +1,19 @@
 -- The ledger's card reader, byte by byte, and the calls' reader, edge by edge, find the same.
-use mathlib.Core.Path.{_≡_, refl, sym, ap, ap₂, _∙_}
-use mathlib.Core.Logic.{_⊎_, inl, inr, ⊎-elim}
-use mathlib.Core.Bool.{Bool, true, false, not, _&&_, _||_}
+use mathlib.Core.Path.{_≡_, refl, ap, _∙_}
+use mathlib.Core.Logic.{_⊎_, inl, inr}
+use mathlib.Core.Bool.{not, _||_}
 use mathlib.Core.List.{List, [], _∷_, map, List·Memᴰ}
 use Prim.Native.Nat.{ℕ, zero, suc, _+_, _-_, _*_, _≤_, _<_}
 use native.Mathlib.Omega.{arith}
 use native.Mathlib.Decide.{ℕ-discrete, decLt}
-use lib.Dec.{T, eqb, leb, ltb}
-use lib.ListN.{length, getD, drop, drop-of-length-le}
-use Rattle.model.specs.Lists.{from, upTo, any?, within?}
-use Rattle.model.specs.Edges.{edgeNumber}
+use lib.ListN.{length, drop, drop-of-length-le}
+use Rattle.model.specs.Limits.{headBytes}
+use Rattle.model.specs.Lists.{from, upTo, any?}
 use Rattle.model.proofs.Tests.{Tests, test-map, test-agree, test-and, test-or, test-not, test-dec, test-le, test-lt, test-any}
 use Rattle.model.proofs.Lists.{up-to, below}
-use Rattle.calls.specs.Card.{headBytes, edgesOf, risingTriples?}
+use Rattle.calls.specs.Card.{edgesOf, risingTriples?}
 use Rattle.calls.proofs.Card.{drop-three}
-use Rattle.demands.specs.Ledger.{byte, edgeCount, edgeAt, stray, falls, outside}
+use Rattle.demands.specs.Ledger.{byte, edgeCount, edgeAt, stray, falls}
 use Rattle.demands.proofs.Numbers.{not-not}
 
 module _ (bytes : List ℕ) where
@@ -59,11 +58,11 @@ module _ (bytes : List ℕ) where
         (test-and (test-lt prev (edgeAt bytes a)) (test-rises (edgeAt bytes a) (suc a) n (omega (arith, e)))))
 
     -- as the ledger reads them
-    record Right (a n : ℕ) : Type 0 where
+    record RightBytes (a n : ℕ) : Type 0 where
       edges : (i : ℕ) → a ≤ i → i < a + n → Edge i
       up : (i : ℕ) → a ≤ i → i + 1 < a + n → edgeAt bytes i < edgeAt bytes (i + 1)
 
-    rises-right : (prev a n : ℕ) → Rises prev a n → Right a n
+    rises-right : (prev a n : ℕ) → Rises prev a n → RightBytes a n
     rises-right prev a zero r = record { edges = λ i h k. absurd (omega (arith, h, k)); up = λ i h k. absurd (omega (arith, h, k)) }
     rises-right prev a (suc n) (l, (p, r)) =
         let more = rises-right (edgeAt bytes a) (suc a) n r in
@@ -76,7 +75,7 @@ module _ (bytes : List ℕ) where
         second zero r h = absurd (omega (arith, h))
         second (suc n) (l, (p, r)) h = let e : a + 1 ≡ suc a = omega arith in rw e p
 
-    right-rises : (prev a n : ℕ) → (1 ≤ n → prev < edgeAt bytes a) → Right a n → Rises prev a n
+    right-rises : (prev a n : ℕ) → (1 ≤ n → prev < edgeAt bytes a) → RightBytes a n → Rises prev a n
     right-rises prev a zero first r = tt
     right-rises prev a (suc n) first r =
         let e : a + 1 ≡ suc a = omega arith in (
@@ -138,12 +137,12 @@ module _ (bytes : List ℕ) where
       ((i : ℕ) × List·Memᴰ i (upTo n) × (¬ (Edge v i)))
       ⊎ ((i : ℕ) × List·Memᴰ i (upTo (n - 1)) × (edgeAt bytes (i + 1) ≤ edgeAt bytes i))
 
-  test-right : Tests (not (any? (stray bytes) (upTo n) || any? (falls bytes) (upTo (n - 1)))) (Right v 0 n)
+  test-right : Tests (not (any? (stray bytes) (upTo n) || any? (falls bytes) (upTo (n - 1)))) (RightBytes v 0 n)
   test-right =
       test-map there back
       (test-not (test-or (test-any test-stray (upTo n)) (test-any (λ i. test-le (edgeAt bytes (i + 1)) (edgeAt bytes i)) (upTo (n - 1)))))
     where
-      there : ¬ Wrong → Right v 0 n
+      there : ¬ Wrong → RightBytes v 0 n
       there w =
           record {
             edges = λ i _ k. edge-known i (λ d. w (inl (i, up-to (omega (arith, k)), d)));
@@ -153,17 +152,17 @@ module _ (bytes : List ℕ) where
             ];
           }
 
-      back : Right v 0 n → ¬ Wrong
+      back : RightBytes v 0 n → ¬ Wrong
       back r (inl (i, m, d)) = d (r .edges i (omega arith) (omega (arith, below m)))
       back r (inr (i, m, h)) = let k = r .up i (omega arith) (omega (arith, below m)) in omega (arith, h, k)
 
   -- check 16 of a card of the right length
   pub triples-agree : length bytes ≡ 9 + 3 * n → (any? (stray bytes) (upTo n) || any? (falls bytes) (upTo (n - 1))) ≡ not (risingTriples? v 0 (drop headBytes bytes))
   triples-agree e =
-      let rises : Tests (risingTriples? v 0 (drop (9 + 3 * 0) bytes)) (Right v 0 n) = test-map (rises-right v 0 0 n) back (test-rises v 0 0 n (omega (arith, e))) in
+      let rises : Tests (risingTriples? v 0 (drop (9 + 3 * 0) bytes)) (RightBytes v 0 n) = test-map (rises-right v 0 0 n) back (test-rises v 0 0 n (omega (arith, e))) in
       not-not _ ∙ ap not (test-agree test-right rises)
     where
-      back : Right v 0 n → Rises v 0 0 n
+      back : RightBytes v 0 n → Rises v 0 0 n
       back r = right-rises v 0 0 n (λ h. let l = r .edges 0 (omega arith) (omega (arith, h)) .1 .0 in omega (arith, l)) r
 
   -- and its edges

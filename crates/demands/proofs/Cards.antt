@@ -1,31 +1,35 @@
 -- Card reading: the call on any station is the ledger's turn.
-use mathlib.Core.Path.{_≡_, refl, sym, ap, _∙_}
+use mathlib.Core.Path.{_≡_, refl, sym, _∙_}
 use mathlib.Core.Bool.{Bool, true, false, not, _&&_, _||_}
 use mathlib.Core.List.{List, [], _∷_, _++_, map}
-use Prim.Native.Nat.{ℕ, _+_, _-_, _*_, _≤_, _<_}
+use Prim.Native.Nat.{ℕ, _+_, _-_, _*_, _≤_}
 use native.Mathlib.Decide.{decLt}
 use native.Mathlib.Omega.{arith}
 use lib.Dec.{eqb, leb, ltb}
 use lib.ListN.{length, drop, length-drop}
-use Rattle.model.specs.Lists.{_∈_, any?, upTo, filled}
-use Rattle.model.specs.Limits.{mostEdges}
+use Rattle.model.specs.Lists.{any?, upTo, Bytes}
+use Rattle.model.specs.Limits.{mostEdges, mostLongest, headBytes}
 use Rattle.model.specs.Entries.{determined}
 use Rattle.model.proofs.Tests.{test-true, test-false, test-yields, test-fails, test-and, test-eq, test-le, test-lt, test-T}
 use Rattle.calls.specs.Checks.{Check, firstRefusal}
-use Rattle.calls.specs.Change.{Header, Memory, graphOf, none, buildRoom?, fits?}
-use Rattle.calls.specs.Card.{Bytes, headBytes, marked?, headerOf, countOf, edgesOf, risingTriples?, cardEdges?, cardChecks, readRefusal, readCall}
+use Rattle.calls.specs.Call.{Memory, graphOf}
+use Rattle.calls.specs.Change.{buildRoom?, fits?}
+use Rattle.calls.specs.Card.{marked?, headerOf, countOf, edgesOf, risingTriples?, cardEdges?, cardChecks, readRefusal, noRecord, readCall}
 use Rattle.calls.proofs.Checks.{test-longest}
 use Rattle.calls.proofs.Settling.{Result, settledChange, settled}
 use Rattle.calls.proofs.Passing.{passing}
 use Rattle.calls.proofs.Card.{marked-short, marked-at, card-edges-long, card-edges-body, triples-good, length-edges, card-vertices}
-use Rattle.demands.specs.Ledger.{Book, rising, bookEntries, narrow, full, byte, edgeCount, edgeAt, stray, falls, cardBook, cardNumber, nothing, turn}
-use Rattle.demands.specs.Station.{Station, read, memoryOf, fedBy}
+use Rattle.demands.specs.Ledger.{Book, card as cardGiven, rising, bookEntries, narrow, full, byte, edgeCount, edgeAt, stray, falls, cardBook, cardNumber, nothing, turn}
+use Rattle.demands.specs.Station.{Call, Station, memoryOf, fedBy, replyTo}
 use Rattle.demands.proofs.Rising.{EdgesOf, rising-is}
 use Rattle.demands.proofs.Numbers.{Gives, gives-none, chain, above-not, either-not, outside-not}
 use Rattle.demands.proofs.CardReader.{triples-agree, edges-agree}
-use Rattle.demands.proofs.Steps.{recordOf, stationOf, Fine, edge-slots, index-slots, Reaches, Matches, matches, begins}
+use Rattle.demands.proofs.Steps.{stationOf, Fine, edge-slots, index-slots, Reaches, Matches, matches, begins, first-reply}
 
 module _ (card : List ℕ) (bytes : Bytes card) (work : List ℕ) where
+  abbrev reads : Call
+  reads = record { given = cardGiven card bytes; work = work }
+
   abbrev wanted : List ℕ
   wanted = edgesOf (drop headBytes card)
 
@@ -52,14 +56,14 @@ module _ (card : List ℕ) (bytes : Bytes card) (work : List ℕ) where
       go false e = rw (e, card-edges-long card (test-fails (test-eq (length card) (9 + 3 * n)) e)) refl
 
   -- what is known of a card whose own checks have passed
-  record Whole : Type 0 where
+  record WholeCard : Type 0 where
     size : length card ≡ 9 + 3 * n
     count : length wanted ≡ n
     edges-are : map (edgeAt card) (upTo n) ≡ wanted
     valid : EdgesOf (headerOf card .vertices) wanted
     rises : rising wanted ≡ wanted
 
-  whole : cardEdges? card ≡ true → Whole
+  whole : cardEdges? card ≡ true → WholeCard
   unfolding cardEdges?
   whole e =
       let (a, b) = test-yields (test-and (test-eq (length card) (9 + 3 * n)) (test-T (risingTriples? (headerOf card .vertices) 0 (drop headBytes card)))) e in
@@ -73,7 +77,7 @@ module _ (card : List ℕ) (bytes : Bytes card) (work : List ℕ) where
         rises = rising-is wanted (card-vertices card bytes) valid (good .rising) (λ x m. m) (λ x m. m);
       }
 
-  book-entries : Whole → bookEntries (cardBook card) ≡ determined (graphOf (headerOf card) wanted)
+  book-entries : WholeCard → bookEntries (cardBook card) ≡ determined (graphOf (headerOf card) wanted)
   unfolding cardBook
   book-entries w = rw (w .edges-are, w .rises) refl
 
@@ -89,28 +93,28 @@ module _ (card : List ℕ) (bytes : Bytes card) (work : List ℕ) where
     abbrev allChecks : List Check
     allChecks = readChecks ++ ((13, fits? (headerOf card) wanted m) ∷ [])
 
-    read-gives : Gives allChecks (cardNumber card (fedBy slots room (read card bytes work)))
+    read-gives : Gives allChecks (cardNumber card (fedBy slots room reads))
     unfolding cardNumber
     read-gives =
         chain fourteen (λ _.
         chain refl (λ _.
-        chain (outside-not 1 4 (byte card 6)) (λ _.
+        chain (outside-not 1 mostLongest (byte card 6)) (λ _.
         chain sixteen (λ edges.
         chain three (λ _.
         chain nine (λ _.
         chain four (λ _.
         chain (thirteen (whole edges)) (λ _. gives-none))))))))
       where
-        three : ltb 1024 slots ≡ not (leb (length (s .edges)) mostEdges)
+        three : ltb mostEdges slots ≡ not (leb (length (s .edges)) mostEdges)
         three = rw wide (above-not slots mostEdges)
 
         nine : ltb slots n ≡ not (leb (countOf card) (length (s .edges)))
         nine = rw wide (above-not n slots)
 
-        four : narrow (fedBy slots room (read card bytes work)) ≡ not (buildRoom? m)
+        four : narrow (fedBy slots room reads) ≡ not (buildRoom? m)
         four = rw long (above-not (4096 + room) (length work))
 
-        thirteen : Whole → full (cardBook card) (fedBy slots room (read card bytes work)) ≡ not (fits? (headerOf card) wanted m)
+        thirteen : WholeCard → full (cardBook card) (fedBy slots room reads) ≡ not (fits? (headerOf card) wanted m)
         thirteen w = rw (book-entries w, long) (above-not (length (determined (graphOf (headerOf card) wanted))) room)
 
     read-reaches : firstRefusal allChecks ≡ 0 → Reaches slots room (settledChange (headerOf card) wanted m) (cardBook card)
@@ -122,8 +126,7 @@ module _ (card : List ℕ) (bytes : Bytes card) (work : List ℕ) where
         let space : n ≤ slots = rw wide at (test-yields (test-le (countOf card) (length (s .edges))) nine) in
         let is : rising (map (edgeAt card) (upTo n)) ≡ wanted = rw (w .edges-are) (w .rises) in
         record {
-          answer = refl;
-          handed = refl;
+          reply = refl;
           edges = rw (wide, is) refl;
           index = rw (long, is) refl;
           fine = record {
@@ -135,22 +138,26 @@ module _ (card : List ℕ) (bytes : Bytes card) (work : List ℕ) where
           };
         }
 
-    read-result : Result (readCall card m) none m (settledChange (headerOf card) wanted m) (firstRefusal allChecks)
+    read-result : Result (readCall card m) noRecord m (settledChange (headerOf card) wanted m) (firstRefusal allChecks)
     unfolding readCall readRefusal
-    read-result = settled none (headerOf card) wanted m readChecks tt
+    read-result = settled noRecord (headerOf card) wanted m readChecks tt
 
-    pub read-begins : (b : Book) → cardNumber card (fedBy slots room (read card bytes work)) ≡ 0
-        → Matches slots room s (readCall card m) (turn b (fedBy slots room (read card bytes work)))
+    pub read-begins : (b : Book) → cardNumber card (fedBy slots room reads) ≡ 0
+        → Matches slots room s (reads .given) (readCall card m) (turn b (fedBy slots room reads))
     unfolding turn
     read-begins b e =
         let z : firstRefusal allChecks ≡ 0 = read-gives .is ∙ e in
-        rw (sym (read-gives .is)) (begins b (cardBook card) nothing read-result z (read-reaches z))
+        rw (sym (read-gives .is)) (begins b (cardBook card) (reads .given) noRecord nothing (λ n. refl) read-result z (read-reaches z))
+
+    pub read-first : (b : Book) → replyTo (reads .given) (readCall card m .reply) ≡ turn b (fedBy slots room reads) .reply
+    unfolding turn
+    read-first b = rw (sym (read-gives .is)) (first-reply b (cardBook card) (reads .given) noRecord nothing (λ n. refl) (firstRefusal allChecks) s read-result read-reaches)
 
   pub read-matches : {slots room : ℕ} {b : Book} → Fine slots room b
-      → Matches slots room (stationOf slots room b) (readCall card (memoryOf (stationOf slots room b) work)) (turn b (fedBy slots room (read card bytes work)))
+      → Matches slots room (stationOf slots room b) (reads .given) (readCall card (memoryOf (stationOf slots room b) work)) (turn b (fedBy slots room reads))
   unfolding turn
   read-matches {slots} {room} {b} f =
       let s = stationOf slots room b in
       rw (sym (read-gives s (edge-slots f) (index-slots f) .is))
-      (matches b (cardBook card) (firstRefusal (allChecks s (edge-slots f) (index-slots f))) none (read-result s (edge-slots f) (index-slots f)) f
+      (matches b (cardBook card) (reads .given) noRecord nothing (λ n. refl) (firstRefusal (allChecks s (edge-slots f) (index-slots f))) (read-result s (edge-slots f) (index-slots f)) f
       (read-reaches s (edge-slots f) (index-slots f)))

@@ -1,14 +1,14 @@
 -- Laying and lifting: the calls on the station are the ledger's turns.
-use mathlib.Core.Path.{_≡_, refl, sym, ap, ap₂, _∙_}
+use mathlib.Core.Path.{_≡_, refl, sym}
 use mathlib.Core.Logic.{_⊎_, inl, inr, ⊎-elim, _≢_}
-use mathlib.Core.Bool.{Bool, true, false, not, _&&_, _||_}
+use mathlib.Core.Bool.{Bool, true, false, not, _||_}
 use mathlib.Core.List.{List, [], _∷_, _++_, List·Memᴰ·head, List·Memᴰ·tail, List·Memᴰ·cases-cons}
-use Prim.Native.Nat.{ℕ, zero, suc, _+_, _*_, _≤_, _<_}
+use Prim.Native.Nat.{ℕ, suc, _+_, _*_, _≤_, _<_}
 use native.Mathlib.Omega.{arith}
-use lib.Dec.{T, eqb, leb, ltb}
+use lib.Dec.{eqb, leb, ltb}
 use lib.ListN.{length}
-use Rattle.model.specs.Lists.{_∈_, keep, mem?, Rising, filled}
-use Rattle.model.specs.Limits.{mostEdges}
+use Rattle.model.specs.Lists.{_∈_, keep, mem?, filled}
+use Rattle.model.specs.Limits.{mostVertices, mostEdges, mostLabel, mostLongest, fromUnit, leastWork}
 use Rattle.model.specs.Edges.{edgeNumber, edge?, label?, edgeMemory?, standing, insertEdge, removeEdge}
 use Rattle.model.specs.Entries.{determined}
 use Rattle.model.proofs.Tests.{Tests, test-true, test-false, test-yields, test-fails, test-map, test-agree, test-not, test-and, test-eq, test-le, test-lt, test-mem}
@@ -16,18 +16,25 @@ use Rattle.model.proofs.Lists.{keep-in, keep-out}
 use Rattle.model.proofs.Edges.{edge-fields, test-edge}
 use Rattle.model.proofs.Memory.{edge-least, standing-filled, filled-memory}
 use Rattle.calls.specs.Checks.{ends?, Check, firstRefusal}
-use Rattle.calls.specs.Change.{Header, Memory, back, graphOf, changeChecks, fits?, insertCall, insertRefusal, removeCall, removeRefusal}
-use Rattle.calls.proofs.Checks.{test-ends, Header as Bounds}
+use Rattle.calls.specs.Call.{Memory, graphOf}
+use Rattle.calls.specs.Change.{changeChecks, fits?, insertCall, insertRefusal, removeCall, removeRefusal}
+use Rattle.calls.proofs.Checks.{test-ends}
 use Rattle.calls.proofs.Settling.{settledChange, settled}
 use Rattle.calls.proofs.Passing.{passing}
-use Rattle.edges.proofs.Memory.{length-insert, member-insert, rising-insert, length-remove, member-remove, rising-remove}
-use Rattle.demands.specs.Ledger.{Book, Fed, insertion, removal, rising, bookEntries, narrow, full, namedNumber, inserted, insertionNumber, removed, removalNumber, turn}
-use Rattle.demands.specs.Station.{Call, insert, remove, memoryOf, change, fedBy}
+use Rattle.model.proofs.Insertion.{length-insert, member-insert, rising-insert, length-remove, member-remove, rising-remove}
+use Rattle.demands.specs.Ledger.{Book, Fed, insertion, removal, rising, bookEntries, narrow, full, namedNumber, inserted, insertionNumber, removed, removalNumber, shows, turn}
+use Rattle.demands.specs.Station.{Call, memoryOf, fedBy}
 use Rattle.demands.proofs.Rising.{EdgesOf, edge-below, rising-rises, rising-in, rising-out, rising-is}
 use Rattle.demands.proofs.Numbers.{Gives, gives-none, chain, above-not, from-not, either-not, not-not, outside-not}
 use Rattle.demands.proofs.Steps.{recordOf, stationOf, Fine, edge-slots, index-slots, Reaches, Matches, matches}
 
 module _ {slots room : ℕ} {b : Book} (f : Fine slots room b) (from label to : ℕ) (work : List ℕ) where
+  abbrev inserts : Call
+  inserts = record { given = insertion from label to; work = work }
+
+  abbrev removes : Call
+  removes = record { given = removal from label to; work = work }
+
   abbrev x : ℕ
   x = edgeNumber from label to
 
@@ -37,7 +44,7 @@ module _ {slots room : ℕ} {b : Book} (f : Fine slots room b) (from label to : 
   abbrev m : Memory
   m = memoryOf (stationOf slots room b) work
 
-  small : b .vertices ≤ 256
+  small : b .vertices ≤ mostVertices
   small = f .bounds .vertices-most
 
   listed : EdgesOf (b .vertices) L
@@ -47,11 +54,11 @@ module _ {slots room : ℕ} {b : Book} (f : Fine slots room b) (from label to : 
   stands = standing-filled slots L (λ z k. omega (arith, edge-least (b .vertices) z (listed z k)))
 
   -- what is known of the named edge where its checks have passed
-  record IsEdge : Type 0 where
+  record NamedEdge : Type 0 where
     valid : edge? (b .vertices) x ≡ true
-    below : x < 256 * 4096
+    below : x < mostVertices * fromUnit
 
-  is-edge : ends? (b .vertices) from to ≡ true → label? label ≡ true → IsEdge
+  is-edge : ends? (b .vertices) from to ≡ true → label? label ≡ true → NamedEdge
   is-edge e k =
       let (p, q) = test-yields (test-ends (b .vertices) from to) e in
       let (u, v) = test-yields (test-and (test-le 1 label) (test-le label 8)) k in
@@ -61,29 +68,29 @@ module _ {slots room : ℕ} {b : Book} (f : Fine slots room b) (from label to : 
 
   -- "1 2 3 4 5 6", then what is left
   named : (fed : Fed) → fed .edgeSlots ≡ slots → fed .indexSlots ≡ room → fed .workSlots ≡ length work → (later : List Check) {later′ : ℕ}
-      → (IsEdge → Gives later later′) → Gives (changeChecks (recordOf b) from label to m ++ later) (namedNumber b from label to fed later′)
+      → (NamedEdge → Gives later later′) → Gives (changeChecks (recordOf b) from label to m ++ later) (namedNumber b from label to fed later′)
   unfolding namedNumber
   named fed e i w later g =
-      chain (outside-not 1 256 (b .vertices)) (λ _.
-      chain (outside-not 1 4 (b .longest)) (λ _.
+      chain (outside-not 1 mostVertices (b .vertices)) (λ _.
+      chain (outside-not 1 mostLongest (b .longest)) (λ _.
       chain three (λ _.
       chain four (λ _.
       chain five (λ ends.
-      chain (outside-not 1 8 label) (λ labelled. g (is-edge ends labelled)))))))
+      chain (outside-not 1 mostLabel label) (λ labelled. g (is-edge ends labelled)))))))
     where
-      three : ltb 1024 (fed .edgeSlots) ≡ not (edgeMemory? (b .vertices) (filled slots L))
+      three : ltb mostEdges (fed .edgeSlots) ≡ not (edgeMemory? (b .vertices) (filled slots L))
       three =
           rw (e, filled-memory (b .vertices) slots L (f .fits) (f .few) (rising-rises (b .edges)) listed)
-          (test-false (test-lt 1024 slots) (λ h. omega (arith, h, f .few)))
+          (test-false (test-lt mostEdges slots) (λ h. omega (arith, h, f .few)))
 
-      four : narrow fed ≡ not (leb (4096 + length (filled room (bookEntries b))) (length work))
-      four = rw (i, w, index-slots f) (above-not (4096 + room) (length work))
+      four : narrow fed ≡ not (leb (leastWork + length (filled room (bookEntries b))) (length work))
+      four = rw (i, w, index-slots f) (above-not (leastWork + room) (length work))
 
       five : leb (b .vertices) from || leb (b .vertices) to ≡ not (ends? (b .vertices) from to)
       five = rw (from-not from (b .vertices), from-not to (b .vertices)) (either-not (ltb from (b .vertices)) (ltb to (b .vertices)))
 
   -- the named edge stands where the ledger has it
-  known : IsEdge → mem? x (standing (filled slots L)) ≡ mem? x (b .edges)
+  known : NamedEdge → mem? x (standing (filled slots L)) ≡ mem? x (b .edges)
   known q = rw stands (test-agree (test-mem x L) (test-map (λ k. rising-in (b .edges) (q .below) k) (λ k. rising-out (b .edges) k) (test-mem x (b .edges))))
 
   -- the wanted edges as the ledger has them, and as edge memory gets them
@@ -95,7 +102,7 @@ module _ {slots room : ℕ} {b : Book} (f : Fine slots room b) (from label to : 
 
   -- ---- laying
 
-  module _ (q : IsEdge) (new : mem? x (b .edges) ≡ false) where
+  module _ (q : NamedEdge) (new : mem? x (b .edges) ≡ false) where
     absent : ¬ (x ∈ L)
     absent k = test-fails (test-mem x (b .edges)) new (rising-out (b .edges) k)
 
@@ -116,7 +123,7 @@ module _ {slots room : ℕ} {b : Book} (f : Fine slots room b) (from label to : 
     inserted-length : length (rising (x ∷ b .edges)) ≡ suc (length L)
     inserted-length = rw (inserted-is, stands) (length-insert x L)
 
-  fresh : IsEdge → not (mem? x (standing (filled slots L))) ≡ true → mem? x (b .edges) ≡ false
+  fresh : NamedEdge → not (mem? x (standing (filled slots L))) ≡ true → mem? x (b .edges) ≡ false
   fresh q e = test-false (test-mem x (b .edges)) (λ k. test-yields (test-not (test-mem x (b .edges))) (rw (known q) at e) k)
 
   abbrev insertChecks : List Check
@@ -125,24 +132,24 @@ module _ {slots room : ℕ} {b : Book} (f : Fine slots room b) (from label to : 
       ++ ((7, not (mem? x (standing (m .edges)))) ∷ (9, ltb (length (standing (m .edges))) (length (m .edges))) ∷ [])
 
   insert-gives : Gives (insertChecks ++ ((13, fits? (recordOf b) grown m) ∷ []))
-      (insertionNumber b from label to (fedBy slots room (insert from label to work)))
+      (insertionNumber b from label to (fedBy slots room inserts))
   unfolding insertionNumber inserted
   insert-gives =
-      named (fedBy slots room (insert from label to work)) refl refl refl _ (λ q.
+      named (fedBy slots room inserts) refl refl refl _ (λ q.
       chain (seven q) (λ new.
       let gone = fresh q new in
       chain (nine q gone) (λ _.
       chain (thirteen q gone) (λ _. gives-none))))
     where
-      seven : IsEdge → mem? x (b .edges) ≡ not (not (mem? x (standing (filled slots L))))
+      seven : NamedEdge → mem? x (b .edges) ≡ not (not (mem? x (standing (filled slots L))))
       seven q = rw (known q) (not-not (mem? x (b .edges)))
 
-      nine : (q : IsEdge) → mem? x (b .edges) ≡ false → ltb slots (length (rising (x ∷ b .edges))) ≡ not (ltb (length (standing (filled slots L))) (length (filled slots L)))
+      nine : (q : NamedEdge) → mem? x (b .edges) ≡ false → ltb slots (length (rising (x ∷ b .edges))) ≡ not (ltb (length (standing (filled slots L))) (length (filled slots L)))
       nine q e =
           rw (inserted-length q e, stands, edge-slots f)
           (test-agree (test-lt slots (suc (length L))) (test-map (λ h. omega (arith, h)) (λ h k. omega (arith, h, k)) (test-not (test-lt (length L) slots))))
 
-      thirteen : (q : IsEdge) → mem? x (b .edges) ≡ false → full (inserted b x) (fedBy slots room (insert from label to work)) ≡ not (fits? (recordOf b) grown m)
+      thirteen : (q : NamedEdge) → mem? x (b .edges) ≡ false → full (inserted b x) (fedBy slots room inserts) ≡ not (fits? (recordOf b) grown m)
       thirteen q e = rw (inserted-is q e, index-slots f) (above-not (length (determined (graphOf (recordOf b) grown))) room)
 
   insert-reaches : firstRefusal (insertChecks ++ ((13, fits? (recordOf b) grown m) ∷ [])) ≡ 0 → Reaches slots room (settledChange (recordOf b) grown m) (inserted b x)
@@ -155,8 +162,7 @@ module _ {slots room : ℕ} {b : Book} (f : Fine slots room b) (from label to : 
       let is = inserted-is q gone in
       let space : length L < slots = rw (stands, edge-slots f) at (test-yields (test-lt (length (standing (filled slots L))) (length (filled slots L))) nine) in
       record {
-        answer = refl;
-        handed = refl;
+        reply = refl;
         edges = rw (edge-slots f, is) refl;
         index = rw (index-slots f, is) refl;
         fine = record {
@@ -168,12 +174,13 @@ module _ {slots room : ℕ} {b : Book} (f : Fine slots room b) (from label to : 
         };
       }
 
-  pub insert-matches : Matches slots room (stationOf slots room b) (insertCall (recordOf b) from label to m) (turn b (fedBy slots room (insert from label to work)))
+  pub insert-matches : Matches slots room (stationOf slots room b) (inserts .given) (insertCall (recordOf b) from label to m) (turn b (fedBy slots room inserts))
   unfolding insertCall insertRefusal turn
   insert-matches =
-      let r = settled (back (recordOf b)) (recordOf b) grown m insertChecks tt in
+      let r = settled (recordOf b) (recordOf b) grown m insertChecks tt in
       rw (sym (insert-gives .is))
-      (matches b (inserted b x) (firstRefusal (insertChecks ++ ((13, fits? (recordOf b) grown m) ∷ []))) (back (recordOf b)) r f insert-reaches)
+      (matches b (inserted b x) (inserts .given) (recordOf b) (shows (b .vertices) (b .longest)) (λ n. refl)
+      (firstRefusal (insertChecks ++ ((13, fits? (recordOf b) grown m) ∷ []))) r f insert-reaches)
 
   -- ---- lifting
 
@@ -195,17 +202,17 @@ module _ {slots room : ℕ} {b : Book} (f : Fine slots room b) (from label to : 
   abbrev removeChecks : List Check
   removeChecks = changeChecks (recordOf b) from label to m ++ ((8, mem? x (standing (m .edges))) ∷ [])
 
-  remove-gives : Gives (removeChecks ++ ((13, fits? (recordOf b) less m) ∷ [])) (removalNumber b from label to (fedBy slots room (remove from label to work)))
+  remove-gives : Gives (removeChecks ++ ((13, fits? (recordOf b) less m) ∷ [])) (removalNumber b from label to (fedBy slots room removes))
   unfolding removalNumber removed
   remove-gives =
-      named (fedBy slots room (remove from label to work)) refl refl refl _ (λ q.
+      named (fedBy slots room removes) refl refl refl _ (λ q.
       chain (eight q) (λ _.
       chain thirteen (λ _. gives-none)))
     where
-      eight : IsEdge → not (mem? x (b .edges)) ≡ not (mem? x (standing (filled slots L)))
+      eight : NamedEdge → not (mem? x (b .edges)) ≡ not (mem? x (standing (filled slots L)))
       eight q = rw (known q) refl
 
-      thirteen : full (removed b x) (fedBy slots room (remove from label to work)) ≡ not (fits? (recordOf b) less m)
+      thirteen : full (removed b x) (fedBy slots room removes) ≡ not (fits? (recordOf b) less m)
       thirteen = rw (removed-is, index-slots f) (above-not (length (determined (graphOf (recordOf b) less))) room)
 
   remove-reaches : firstRefusal (removeChecks ++ ((13, fits? (recordOf b) less m) ∷ [])) ≡ 0 → Reaches slots room (settledChange (recordOf b) less m) (removed b x)
@@ -217,8 +224,7 @@ module _ {slots room : ℕ} {b : Book} (f : Fine slots room b) (from label to : 
       let here : x ∈ L = rw stands at (test-yields (test-mem x (standing (filled slots L))) there) in
       let size : length (rising (keep others (b .edges))) < length L = rw (removed-is, stands) (omega (arith, length-remove x L here)) in
       record {
-        answer = refl;
-        handed = refl;
+        reply = refl;
         edges = rw (edge-slots f, removed-is) refl;
         index = rw (index-slots f, removed-is) refl;
         fine = record {
@@ -230,9 +236,10 @@ module _ {slots room : ℕ} {b : Book} (f : Fine slots room b) (from label to : 
         };
       }
 
-  pub remove-matches : Matches slots room (stationOf slots room b) (removeCall (recordOf b) from label to m) (turn b (fedBy slots room (remove from label to work)))
+  pub remove-matches : Matches slots room (stationOf slots room b) (removes .given) (removeCall (recordOf b) from label to m) (turn b (fedBy slots room removes))
   unfolding removeCall removeRefusal turn
   remove-matches =
-      let r = settled (back (recordOf b)) (recordOf b) less m removeChecks tt in
+      let r = settled (recordOf b) (recordOf b) less m removeChecks tt in
       rw (sym (remove-gives .is))
-      (matches b (removed b x) (firstRefusal (removeChecks ++ ((13, fits? (recordOf b) less m) ∷ []))) (back (recordOf b)) r f remove-reaches)
+      (matches b (removed b x) (removes .given) (recordOf b) (shows (b .vertices) (b .longest)) (λ n. refl)
+      (firstRefusal (removeChecks ++ ((13, fits? (recordOf b) less m) ∷ []))) r f remove-reaches)

@@ -1,143 +1,70 @@
 -- Demand 2 holds.
 use mathlib.Core.Path.{_≡_, refl, sym, ap, ap₂, _∙_}
-use mathlib.Core.Logic.{_⊎_, inl, inr}
-use mathlib.Core.Bool.{Bool, true, false}
+use mathlib.Core.Bool.{true}
 use mathlib.Core.List.{List, [], _∷_, _++_}
-use Prim.Native.Nat.{ℕ, zero, suc, _+_, _*_, _≤_, _<_}
+use Prim.Native.Nat.{ℕ, zero, suc, _+_, _*_, _≤_}
 use native.Mathlib.Omega.{arith}
 use lib.Dec.{leb}
 use lib.ListN.{length, take, drop}
 use lib.Seq.{take-append-seam}
-use Rattle.model.specs.Lists.{_∈_, Rising, filled}
-use Rattle.model.specs.Limits.{mostEdges, leastWork}
-use Rattle.model.specs.Edges.{Graph, Small, edge?, edgeMemory?, standing}
-use Rattle.model.specs.Patterns.{Keyed, keyed?, minRepeat}
-use Rattle.model.specs.Walks.{Runs}
-use Rattle.model.specs.Order.{counted}
+use Rattle.model.specs.Lists.{filled, Bytes}
+use Rattle.model.specs.Limits.{mostEdges, leastWork, headBytes, tripleBytes}
+use Rattle.model.specs.Edges.{edgeMemory?, standing}
 use Rattle.model.specs.Entries.{determined}
-use Rattle.model.specs.Query.{indexMemory?, answers?, Yes, No, Refused}
-use Rattle.model.proofs.Tests.{test-true, test-false, test-yields, test-fails, test-le, test-T}
-use Rattle.model.proofs.Patterns.{test-keyed}
-use Rattle.model.proofs.Memory.{edge-least, standing-filled, filled-memory}
-use Rattle.calls.specs.Checks.{vertices?, longest?, ends?, Check, firstRefusal}
-use Rattle.calls.specs.Change.{Header, graphOf, Memory, none as no-record, Change, numbersOf, buildRoom?, fits?}
-use Rattle.calls.specs.Card.{Bytes, headBytes, headerOf, countOf, edgesOf, cardOf, cardChecks, cardRefusal, readRefusal, readCall, Length, Written, writtenWith, writeRefusal, writeCall}
-use Rattle.calls.specs.Query.{queriedWith, queryRefusal, queryCall}
-use Rattle.calls.proofs.Checks.{Header as Bounds, First, none, pass, stop, first-is, test-vertices, test-longest, test-ends}
-use Rattle.calls.proofs.Query.{query-accepted}
+use Rattle.model.proofs.Tests.{test-true, test-le}
+use Rattle.model.proofs.Zeros.{filled-within}
+use Rattle.model.proofs.Memory.{edge-memory, edge-least, standing-filled, filled-memory}
+use Rattle.calls.specs.Checks.{vertices?, longest?, Check, firstRefusal}
+use Rattle.calls.specs.Call.{Header, graphOf, Memory, Outcome}
+use Rattle.calls.specs.Change.{buildRoom?, fits?}
+use Rattle.calls.specs.Card.{headerOf, countOf, edgesOf, cardOf, cardChecks, cardRefusal, readRefusal, noRecord, readCall, Wrote, Length, writeRefusal, writeCall}
+use Rattle.calls.proofs.Checks.{none, pass, first-is, bounded, bounds-pass}
 use Rattle.calls.proofs.Change.{pass-first}
-use Rattle.calls.proofs.Settling.{settledChange, Result, settled}
+use Rattle.calls.proofs.Settling.{settledChange, settled}
 use Rattle.calls.proofs.Passing.{passing}
-use Rattle.calls.proofs.Card.{card-is, TriplesGood, triples-good, CardGood, card-good, card-vertices, Cardable, CardSays, card-says, card-again}
-use Rattle.edges.specs.Memory.{scanOf}
-use Rattle.edges.proofs.Memory.{Scans, scans}
-use Rattle.demands.specs.Ledger.{Book, bookEntries, ledger}
-use Rattle.demands.specs.Station.{Station, run, fedAll}
+use Rattle.calls.proofs.Card.{card-good, Cardable, CardSays, card-says, card-again}
+use Rattle.demands.specs.Demand2.{Roomy, Restores, Demand2}
 use Rattle.demands.specs.Demand3.{standingGraph}
-use Rattle.demands.specs.Demand2.{Right, Roomy, Restores, Demand2}
-use Rattle.demands.proofs.Index.{whole-passes, answer-right}
-use Rattle.demands.proofs.Steps.{stationOf, Fine}
 use Rattle.demands.proofs.Demand1.{kind, numberIn}
-use Rattle.demands.proofs.Demand3.{small, agreed}
-
--- ---- (a) questions to the memory that the calls left
-
-not-both : ¬ (false ≡ true)
-not-both e = test-fails (test-T true) (sym e) tt
-
-number-refuses : (vertices longest start destination : ℕ) (pattern index : List ℕ) {n : ℕ}
-    → queryRefusal vertices longest start destination pattern index ≡ suc n → queryCall vertices longest start destination pattern index ≡ Refused (suc n)
-unfolding queryCall
-number-refuses vertices longest start destination pattern index e = rw e refl
-
-module _ {slots room : ℕ} {b : Book} (f : Fine slots room b) where
-  abbrev index : List ℕ
-  index = filled room (bookEntries b)
-
-  -- the record passes 1 and 2
-  after-header : (start destination : ℕ) (pattern : List ℕ) {n : ℕ}
-      → First ((10, ends? (b .vertices) start destination) ∷ (11, keyed? (b .longest) pattern) ∷ (12, indexMemory? (b .vertices) (b .longest) index) ∷ []) n
-      → queryRefusal (b .vertices) (b .longest) start destination pattern index ≡ n
-  unfolding queryRefusal
-  after-header start destination pattern g =
-      first-is (pass (test-true (test-vertices (b .vertices)) (f .bounds .vertices-least, f .bounds .vertices-most))
-      (pass (test-true (test-longest (b .longest)) (f .bounds .longest-least, f .bounds .longest-most)) g))
-
-  right : Right (stationOf slots room b .header) index b
-  unfolding determined
-  right =
-      record {
-        replies = λ s t l hs ht k. ask s t l hs ht k (answers? (b .vertices) index (minRepeat l) s t) refl;
-        ends = λ s t l d. number-refuses (b .vertices) (b .longest) s t l index (after-header s t l (stop (test-false (test-ends (b .vertices) s t) d)));
-        patterns = λ s t l hs ht d.
-            number-refuses (b .vertices) (b .longest) s t l index (after-header s t l (pass (test-true (test-ends (b .vertices) s t) (hs, ht)) (stop (test-false (test-keyed (b .longest) l) d))));
-      }
-    where
-      passes : (s t : ℕ) (l : List ℕ) → s < b .vertices → t < b .vertices → Keyed (b .longest) l → queryRefusal (b .vertices) (b .longest) s t l index ≡ 0
-      passes s t l hs ht k =
-          after-header s t l (pass (test-true (test-ends (b .vertices) s t) (hs, ht))
-          (pass (test-true (test-keyed (b .longest) l) k)
-          (pass (whole-passes (standingGraph b) (counted (standingGraph b)) (small f) room) none)))
-
-      ask : (s t : ℕ) (l : List ℕ) → s < b .vertices → t < b .vertices → Keyed (b .longest) l → (y : Bool)
-          → answers? (b .vertices) index (minRepeat l) s t ≡ y
-          → ((queryCall (b .vertices) (b .longest) s t l index ≡ Yes) × Runs (standingGraph b) (minRepeat l) s t)
-          ⊎ ((queryCall (b .vertices) (b .longest) s t l index ≡ No) × (¬ Runs (standingGraph b) (minRepeat l) s t))
-      ask s t l hs ht k true e =
-          inl (
-            sym (query-accepted (b .vertices) (b .longest) s t l index true (passes s t l hs ht k) (sym e)),
-            answer-right (standingGraph b) (counted (standingGraph b)) (small f) room hs ht k .0 e,
-          )
-      ask s t l hs ht k false e =
-          inr (
-            sym (query-accepted (b .vertices) (b .longest) s t l index false (passes s t l hs ht k) (sym e)),
-            λ r. not-both (sym e ∙ answer-right (standingGraph b) (counted (standingGraph b)) (small f) room hs ht k .1 r),
-          )
+use Rattle.demands.proofs.Demand3.{agreed}
+use Rattle.demands.proofs.Reading.{Said, read-said}
+use Rattle.demands.proofs.Right.{right, changes-right}
+use Rattle.demands.proofs.Receiving.{receiving-same}
 
 -- ---- (b) a card that was written, read again
 
--- edge memory that passes check 3
-memory-scans : {vertices : ℕ} {edges : List ℕ} → edgeMemory? vertices edges ≡ true → Scans vertices edges (length (standing edges))
-memory-scans {vertices} {edges} t = scans vertices edges (unfold scanOf in rw t refl)
-
 -- the length, and the checks that have passed
-record Accepted (h : Header) (edges output : List ℕ) (n : ℕ) : Type 0 where
-  size : n ≡ length (cardOf h (standing edges))
-  out : writeCall h edges output .output ≡ cardOf h (standing edges) ++ drop n output
-  cardable : Cardable h (standing edges)
+record Accepted (h : Header) (w : Memory) (n : ℕ) : Type 0 where
+  size : n ≡ length (cardOf h (standing (w .edges)))
+  out : writeCall h w .memory .output ≡ cardOf h (standing (w .edges)) ++ drop n (w .output)
+  cardable : Cardable h (standing (w .edges))
 
-abbrev writeChecks : (h : Header) (edges output : List ℕ) → List Check
-writeChecks h edges output =
+abbrev writeChecks : Header → Memory → List Check
+writeChecks h w =
     (1, vertices? (h .vertices))
     ∷ (2, longest? (h .longest))
-    ∷ (3, edgeMemory? (h .vertices) edges)
-    ∷ (17, leb (headBytes + 3 * length (standing edges)) (length output))
+    ∷ (3, edgeMemory? (h .vertices) (w .edges))
+    ∷ (17, leb (headBytes + tripleBytes * length (standing (w .edges))) (length (w .output)))
     ∷ []
 
-wrote : (h : Header) (edges output : List ℕ) {n : ℕ} → writeCall h edges output .reply ≡ Length n → Accepted h edges output n
+wrote : (h : Header) (w : Memory) {n : ℕ} → writeCall h w .reply ≡ Length n → Accepted h w n
 unfolding writeCall
-wrote h edges output {n} e = go (writeRefusal h edges output) refl e
+wrote h w {n} e = go (writeRefusal h w) refl e
   where
-    go : (k : ℕ) → writeRefusal h edges output ≡ k → writtenWith (writeRefusal h edges output) (cardOf h (standing edges)) output .reply ≡ Length n
-        → Accepted h edges output n
+    go : (k : ℕ) → writeRefusal h w ≡ k → writeCall h w .reply ≡ Length n → Accepted h w n
     go (suc k) q e = absurd (let z : 1 ≡ 0 = ap kind (rw q at e) in omega (arith, z))
     go zero q e =
-        let (v, (k, (mem, _))) = passing (writeChecks h edges output) tt (unfold writeRefusal in q) in
-        let (a, b) = test-yields (test-vertices (h .vertices)) v in
-        let (c, d) = test-yields (test-longest (h .longest)) k in
-        let s = memory-scans mem in
-        let size : length (cardOf h (standing edges)) ≡ n = ap numberIn (rw q at e) in
+        let (v, (k, (mem, _))) = passing (writeChecks h w) tt (unfold writeRefusal in q) in
+        let (few, s) = edge-memory (h .vertices) (w .edges) mem in
+        let size : length (cardOf h (standing (w .edges))) ≡ n = ap numberIn (rw q at e) in
         record {
           size = sym size;
           out = rw (q, sym size) refl;
           cardable = record {
-            vertices-least = a;
-            vertices-most = b;
-            longest-least = c;
-            longest-most = d;
-            few = omega (arith, s .within, s .slots);
-            rising = s .rising;
-            valid = s .edges;
+            bounds = bounded v k;
+            few = omega (arith, few, filled-within (standing (w .edges)) (s .zeros));
+            rising = s .sorted;
+            valid = λ x k. s .each x k .1;
           };
         }
 
@@ -147,7 +74,7 @@ read-accepted : (card : List ℕ) (m : Memory) {h : Header} {edges : List ℕ} �
 unfolding readCall readRefusal
 read-accepted card m {h} {edges} says room =
     let q : firstRefusal (cardChecks card ++ later) ≡ 0 = pass-first (cardChecks card) later tt (unfold cardRefusal in says .passes) ∙ rest in
-    settled no-record (headerOf card) (edgesOf (drop headBytes card)) m (cardChecks card ++ more) tt .accepted q
+    settled noRecord (headerOf card) (edgesOf (drop headBytes card)) m (cardChecks card ++ more) tt .accepted q
     ∙ ap₂ (λ (k : Header) (l : List ℕ). settledChange k l m) (says .header) (says .edges-are)
   where
     more : List Check
@@ -169,104 +96,65 @@ read-accepted card m {h} {edges} says room =
         (pass (test-true (test-le (leastWork + length (m .index)) (length (m .work))) (room .work))
         (pass thirteen none))))
 
-reading : (h : Header) (edges output : List ℕ) (n : ℕ) (m : Memory) → writeCall h edges output .reply ≡ Length n
-    → Roomy m (length (standing edges)) (length (determined (graphOf h (standing edges))))
-    → Restores h edges m (readCall (take n (writeCall h edges output .output)) m)
-reading h edges output n m e room =
-    let a = wrote h edges output e in
-    let bytes : take n (writeCall h edges output .output) ≡ cardOf h (standing edges)
-    = rw (a .out) (ap (λ (k : ℕ). take k (cardOf h (standing edges) ++ drop n output)) (a .size) ∙ take-append-seam (cardOf h (standing edges)) (drop n output)) in
-    rw (bytes, read-accepted (cardOf h (standing edges)) m (card-says (a .cardable)) room)
-    (record { accepted = refl; header = refl; edges-back = refl; index-back = refl })
+reading : (h : Header) (w : Memory) (n : ℕ) (m : Memory) → writeCall h w .reply ≡ Length n
+    → Roomy m (length (standing (w .edges))) (length (determined (graphOf h (standing (w .edges)))))
+    → Restores h (w .edges) m (readCall (take n (writeCall h w .memory .output)) m)
+reading h w n m e room =
+    let a = wrote h w e in
+    let card = cardOf h (standing (w .edges)) in
+    let bytes : take n (writeCall h w .memory .output) ≡ card
+    = rw (a .out) (ap (λ (k : ℕ). take k (card ++ drop n (w .output))) (a .size) ∙ take-append-seam card (drop n (w .output))) in
+    rw (bytes, read-accepted card m (card-says (a .cardable)) room) (record { accepted = refl; header = refl; edges-back = refl; index-back = refl })
 
 -- ---- (c) a card that was read, written again
 
--- what is known of a card that was read
-record Said (card : List ℕ) (m : Memory) : Type 0 where
-  passes : cardRefusal card ≡ 0
-  is : readCall card m ≡ settledChange (headerOf card) (edgesOf (drop headBytes card)) m
-  bounds : Bounds (headerOf card .vertices) (headerOf card .longest)
-  few : length (m .edges) ≤ mostEdges
-  fits : length (edgesOf (drop headBytes card)) ≤ length (m .edges)
-  rising : Rising (edgesOf (drop headBytes card))
-  valid : (x : ℕ) → x ∈ edgesOf (drop headBytes card) → edge? (headerOf card .vertices) x ≡ true
+-- what a written card comes to
+record WritesBack (bytes output : List ℕ) (w : Outcome Wrote) : Type 0 where
+  reply : w .reply ≡ Length (length bytes)
+  output-is : w .memory .output ≡ bytes ++ drop (length bytes) output
 
-read-said : (card : List ℕ) (m : Memory) → Bytes card → readCall card m .answer ≡ 0 → Said card m
-unfolding readCall readRefusal
-read-said card m bytes e = go (firstRefusal (checks ++ last)) refl
-  where
-    wanted : List ℕ
-    wanted = edgesOf (drop headBytes card)
-
-    checks : List Check
-    checks = cardChecks card ++ ((3, leb (length (m .edges)) mostEdges) ∷ (9, leb (countOf card) (length (m .edges))) ∷ (4, buildRoom? m) ∷ [])
-
-    last : List Check
-    last = (13, fits? (headerOf card) wanted m) ∷ []
-
-    result : Result (readCall card m) no-record m (settledChange (headerOf card) wanted m) (firstRefusal (checks ++ last))
-    result = settled no-record (headerOf card) wanted m checks tt
-
-    go : (n : ℕ) → firstRefusal (checks ++ last) ≡ n → Said card m
-    go (suc n) q = absurd (let z = (rw q at result) .answer (omega arith) in omega (arith, z, e))
-    go zero q =
-        let (a, (b, (c, (d, (few, (nine, _)))))) = passing (checks ++ last) tt q in
-        let own : cardRefusal card ≡ 0 = card-is card (pass a (pass b (pass c (pass d none)))) in
-        let g = card-good card own in
-        let triples = triples-good (headerOf card .vertices) 0 (drop headBytes card) (g .triples) (card-vertices card bytes) in
-        record {
-          passes = own;
-          is = result .accepted q;
-          bounds = record {
-            vertices-least = omega arith;
-            vertices-most = card-vertices card bytes;
-            longest-least = g .longest-least;
-            longest-most = g .longest-most;
-          };
-          few = test-yields (test-le (length (m .edges)) mostEdges) few;
-          fits = omega (arith, g .count, test-yields (test-le (countOf card) (length (m .edges))) nine);
-          rising = triples .rising;
-          valid = λ x k. triples .each x k .1;
-        }
-
-writes-back : (card output : List ℕ) (m : Memory) → Bytes card → Said card m → length card ≤ length output
-    → writeCall (headerOf card) (filled (length (m .edges)) (edgesOf (drop headBytes card))) output
-    ≡ record { reply = Length (length card); output = card ++ drop (length card) output }
+writes-back : (bytes output : List ℕ) (m : Memory) → Bytes bytes → Said bytes m → length bytes ≤ length output
+    → WritesBack bytes output (writeCall (headerOf bytes) (record { edges = filled (length (m .edges)) (edgesOf (drop headBytes bytes)); index = []; work = []; output = output }))
 unfolding writeCall writeRefusal
-writes-back card output m bytes c long = rw (no-refusal, stands, card-again card (c .passes) bytes) refl
+writes-back bytes output m small c long = rw (no-refusal, stands, card-again bytes (c .passes) small) (record { reply = refl; output-is = refl })
   where
     wanted : List ℕ
-    wanted = edgesOf (drop headBytes card)
+    wanted = edgesOf (drop headBytes bytes)
+
+    w : Memory
+    w = record { edges = filled (length (m .edges)) wanted; index = []; work = []; output = output }
 
     stands : standing (filled (length (m .edges)) wanted) ≡ wanted
-    stands = standing-filled (length (m .edges)) wanted (λ x k. omega (arith, edge-least (headerOf card .vertices) x (c .valid x k)))
+    stands = standing-filled (length (m .edges)) wanted (λ x k. omega (arith, edge-least (headerOf bytes .vertices) x (c .valid x k)))
 
-    size : headBytes + 3 * length wanted ≡ length card
-    size = omega (arith, card-good card (c .passes) .count, card-good card (c .passes) .whole)
+    size : headBytes + tripleBytes * length wanted ≡ length bytes
+    size = omega (arith, card-good bytes (c .passes) .count, card-good bytes (c .passes) .whole)
 
-    seventeen : leb (headBytes + 3 * length (standing (filled (length (m .edges)) wanted))) (length output) ≡ true
-    seventeen = rw (stands, size) (test-true (test-le (length card) (length output)) long)
+    seventeen : leb (headBytes + tripleBytes * length (standing (filled (length (m .edges)) wanted))) (length output) ≡ true
+    seventeen = rw (stands, size) (test-true (test-le (length bytes) (length output)) long)
 
-    no-refusal : writeRefusal (headerOf card) (filled (length (m .edges)) wanted) output ≡ 0
+    no-refusal : writeRefusal (headerOf bytes) w ≡ 0
     no-refusal =
-        first-is (pass (test-true (test-vertices (headerOf card .vertices)) (c .bounds .vertices-least, c .bounds .vertices-most))
-        (pass (test-true (test-longest (headerOf card .longest)) (c .bounds .longest-least, c .bounds .longest-most))
-        (pass (filled-memory (headerOf card .vertices) (length (m .edges)) wanted (c .fits) (c .few) (c .rising) (c .valid))
-        (pass seventeen none))))
+        first-is (bounds-pass (c .bounds)
+        (pass (filled-memory (headerOf bytes .vertices) (length (m .edges)) wanted (c .fits) (c .few) (c .rising) (c .valid)) (pass seventeen none)))
 
-writing : (card output : List ℕ) (m : Memory) → Bytes card → readCall card m .answer ≡ 0 → length card ≤ length output
-    → writeCall (numbersOf (readCall card m .handed)) (readCall card m .memory .edges) output
-    ≡ record { reply = Length (length card); output = card ++ drop (length card) output }
-writing card output m bytes e long =
-    let c = read-said card m bytes e in
-    ap (λ (k : Change). writeCall (numbersOf (k .handed)) (k .memory .edges) output) (c .is) ∙ writes-back card output m bytes c long
+writing : (bytes output : List ℕ) (m : Memory) → Bytes bytes → readCall bytes m .reply .answer ≡ 0 → length bytes ≤ length output →
+    let c = readCall bytes m in
+    let w = writeCall (c .reply .header) (record { edges = c .memory .edges; index = []; work = []; output = output }) in
+    (w .reply ≡ Length (length bytes)) × (w .memory .output ≡ bytes ++ drop (length bytes) output)
+writing bytes output m small e long =
+    let c = read-said bytes m small e in
+    let b = writes-back bytes output m small c long in
+    rw (c .is) (b .reply, b .output-is)
 
 pub demand2 : Demand2
 demand2 =
     record {
+      changes = changes-right;
       questions = λ s first more begins e.
           let a = agreed s first more begins e in
-          rw (a .station) (right (a .fine));
+          rw (a .station) (right (standingGraph _) (a .fine .bounds) (length (s .index)));
       reading = reading;
       writing = writing;
+      receiving-same = receiving-same;
     }

@@ -1,41 +1,40 @@
 -- Demand 3 holds.
-use mathlib.Core.Path.{_≡_, refl, sym, ap, ap₂, _∙_}
-use mathlib.Core.Bool.{Bool, true, false}
+use mathlib.Core.Path.{_≡_, refl, ap, ap₂, _∙_}
+use mathlib.Core.Bool.{Bool}
 use mathlib.Core.List.{List, [], _∷_, map}
-use Prim.Native.Nat.{ℕ, _≤_, _<_}
+use Prim.Native.Nat.{ℕ, zero, suc}
 use lib.Dec.{T}
 use lib.ListN.{length}
 use Rattle.model.specs.Lists.{_∈_, keep, filled}
-use Rattle.model.specs.Edges.{Graph, Small}
-use Rattle.model.specs.Patterns.{keyed?, minRepeat}
+use Rattle.model.specs.Edges.{Small}
 use Rattle.model.specs.Order.{counted}
-use Rattle.model.specs.Entries.{determined, entries}
-use Rattle.model.specs.Query.{indexMemory?, answers?, No}
+use Rattle.model.specs.Entries.{determined}
 use Rattle.model.proofs.Tests.{test-true}
 use Rattle.model.proofs.Patterns.{test-keyed}
 use Rattle.model.proofs.Order.{counted-names}
-use Rattle.calls.specs.Checks.{firstRefusal}
-use Rattle.calls.specs.Query.{saying, queryRefusal, queryCall}
-use Rattle.calls.proofs.Checks.{First, none, pass, first-is, test-vertices, test-longest, test-ends}
-use Rattle.calls.proofs.Query.{query-accepted}
-use Rattle.demands.specs.Index.{Turned}
-use Rattle.demands.specs.Ledger.{Book, bookEntries, numberFor, turn, Reply, ledger}
-use Rattle.demands.specs.Station.{Call, opens, insert, remove, read, Station, change, replyOf, run, givenBy, fedBy, fedAll}
-use Rattle.demands.specs.Demand3.{blank, Begins, by-opening, by-card, standingGraph, Missed, Demand3, Demand3Holds}
-use Rattle.demands.proofs.Index.{struck-answer}
-use Rattle.demands.proofs.Steps.{stationOf, Fine, Matches}
+use Rattle.calls.specs.Call.{lent}
+use Rattle.calls.specs.Query.{queryRefusal, queryCall}
+use Rattle.calls.proofs.Checks.{none, pass, first-is, bounds-pass, test-ends}
+use Rattle.demands.specs.Ledger.{Given, opening, insertion, removal, card, Fed, Book, bookEntries, ruling, turnWith, turn, LedgerReply, ledger}
+use Rattle.demands.specs.Station.{Call, Station, changeOn, change, run, fedBy, fedAll}
+use Rattle.demands.specs.Demand3.{blank, Begins, standingGraph, Missed, Demand3Holds}
+use Rattle.demands.proofs.Index.{Turned, struck-answer}
+use Rattle.demands.proofs.Steps.{recordOf, stationOf, Fine, Matches}
 use Rattle.demands.proofs.Changes.{insert-matches, remove-matches}
-use Rattle.demands.proofs.Openings.{open-begins, open-matches}
-use Rattle.demands.proofs.Cards.{read-begins, read-matches}
+use Rattle.demands.proofs.Openings.{open-begins, open-first, open-matches}
+use Rattle.demands.proofs.Cards.{read-begins, read-first, read-matches}
 
 -- ---- one call after another
 
 module _ (slots room : ℕ) where
-  step : {b : Book} → Fine slots room b → (c : Call) → Matches slots room (stationOf slots room b) (change (stationOf slots room b) c) (turn b (fedBy slots room c))
-  step f (opens h) = open-matches h f
-  step f (insert from label to work) = insert-matches f from label to work
-  step f (remove from label to work) = remove-matches f from label to work
-  step f (read card bytes work) = read-matches card bytes work f
+  step : {b : Book} → Fine slots room b → (c : Call) → Matches slots room (stationOf slots room b) (c .given) (change (stationOf slots room b) c) (turn b (fedBy slots room c))
+  step {b} f c = on (c .given)
+    where
+      on : (given : Given) → Matches slots room (stationOf slots room b) given (changeOn (stationOf slots room b) (c .work) given) (turn b (fedBy slots room (record { given = given; work = c .work })))
+      on (opening vertices longest) = open-matches (record { vertices = vertices; longest = longest }) (c .work) f
+      on (insertion from label to) = insert-matches f from label to (c .work)
+      on (removal from label to) = remove-matches f from label to (c .work)
+      on (card bytes small) = read-matches bytes small (c .work) f
 
   -- the station's run and the ledger's account
   pub record Agrees (s : Station) (b : Book) (calls : List Call) : Type 0 where
@@ -44,12 +43,12 @@ module _ (slots room : ℕ) where
     pub fine : Fine slots room (ledger b (map (fedBy slots room) calls) .book)
 
   -- a call that matches, and a list that agrees from there on
-  after-first : {s : Station} {b : Book} (c : Call) {more : List Call} → Matches slots room s (change s c) (turn b (fedBy slots room c))
+  after-first : {s : Station} {b : Book} (c : Call) {more : List Call} → Matches slots room s (c .given) (change s c) (turn b (fedBy slots room c))
       → Agrees (stationOf slots room (turn b (fedBy slots room c) .book)) (turn b (fedBy slots room c) .book) more → Agrees s b (c ∷ more)
   unfolding run ledger
   after-first c {more} m a =
       record {
-        replies = ap₂ (λ (x : Reply) (l : List Reply). x ∷ l) (m .reply) (ap (λ (t : Station). run t more .replies) (m .next) ∙ a .replies);
+        replies = ap₂ (λ (x : LedgerReply) (l : List LedgerReply). x ∷ l) (m .reply) (ap (λ (t : Station). run t more .replies) (m .next) ∙ a .replies);
         station = ap (λ (t : Station). run t more .station) (m .next) ∙ a .station;
         fine = a .fine;
       }
@@ -59,9 +58,36 @@ module _ (slots room : ℕ) where
   agrees (c ∷ more) f = let m = step f c in after-first c m (agrees more (m .fine))
 
 -- an accepted opening or card reading, whatever the station holds
-begun : (s : Station) (c : Call) → Begins (givenBy c) → numberFor blank (givenBy c) (fedBy (length (s .edges)) (length (s .index)) c) ≡ 0 → Matches (length (s .edges)) (length (s .index)) s (change s c) (turn blank (fedBy (length (s .edges)) (length (s .index)) c))
-begun s (opens h) _ e = open-begins h s refl refl blank e
-begun s (read card bytes work) _ e = read-begins card bytes work s refl refl blank e
+pub begun : (s : Station) (c : Call) → Begins (c .given) → ruling blank (fedBy (length (s .edges)) (length (s .index)) c) .number ≡ 0
+    → Matches (length (s .edges)) (length (s .index)) s (c .given) (change s c) (turn blank (fedBy (length (s .edges)) (length (s .index)) c))
+begun s c begins = on (c .given) begins
+  where
+    made : Given → Call
+    made given = record { given = given; work = c .work }
+
+    on : (given : Given) → Begins given → ruling blank (fedBy (length (s .edges)) (length (s .index)) (made given)) .number ≡ 0
+        → Matches (length (s .edges)) (length (s .index)) s given (changeOn s (c .work) given) (turn blank (fedBy (length (s .edges)) (length (s .index)) (made given)))
+    on (opening vertices longest) _ e = open-begins (record { vertices = vertices; longest = longest }) (c .work) s refl refl blank e
+    on (card bytes small) _ e = read-begins bytes small (c .work) s refl refl blank e
+
+-- the number of a turn
+turn-number : (b : Book) (f : Fed) → turn b f .reply .number ≡ ruling b f .number
+unfolding turn
+turn-number b f = go (ruling b f .number)
+  where
+    go : (n : ℕ) → turnWith n b (ruling b f .sets) (ruling b f .refused) .reply .number ≡ n
+    go zero = refl
+    go (suc n) = refl
+
+-- whatever the station holds, an opening's or a card's answer is the ledger's, refused or not
+pub first-number : (s : Station) (c : Call) → Begins (c .given) → change s c .reply .answer ≡ ruling blank (fedBy (length (s .edges)) (length (s .index)) c) .number
+first-number s c begins = on (c .given) begins ∙ turn-number blank (fedBy (length (s .edges)) (length (s .index)) c)
+  where
+    on : (given : Given) → Begins given
+        → changeOn s (c .work) given .reply .answer ≡ turn blank (fedBy (length (s .edges)) (length (s .index)) (record { given = given; work = c .work })) .reply .number
+    on (opening vertices longest) _ =
+        ap (λ (x : LedgerReply). x .number) (open-first (record { vertices = vertices; longest = longest }) (c .work) s refl refl blank)
+    on (card bytes small) _ = ap (λ (x : LedgerReply). x .number) (read-first bytes small (c .work) s refl refl blank)
 
 -- ---- no entry can be spared
 
@@ -80,20 +106,19 @@ module _ {slots room : ℕ} {b : Book} (f : Fine slots room b) where
         pattern = t .pattern;
         own = t .asked .pattern;
         runs = t .runs;
-        answered = sym (query-accepted (b .vertices) (b .longest) (t .start) (t .destination) (t .pattern) _ false (passes t) (sym (t .no-after)));
+        answered = unfold queryCall in rw (passes t, t .no-after) refl;
       }
     where
-      passes : {whole struck : List ℕ} (t : Turned (standingGraph b) whole struck) → queryRefusal (b .vertices) (b .longest) (t .start) (t .destination) (t .pattern) struck ≡ 0
+      passes : {whole struck : List ℕ} (t : Turned (standingGraph b) whole struck) → queryRefusal (recordOf b) (t .start) (t .destination) (t .pattern) (lent [] struck []) ≡ 0
       passes t =
           unfold queryRefusal in
-          first-is (pass (test-true (test-vertices (b .vertices)) (f .bounds .vertices-least, f .bounds .vertices-most))
-          (pass (test-true (test-longest (b .longest)) (f .bounds .longest-least, f .bounds .longest-most))
+          first-is (bounds-pass (f .bounds)
           (pass (test-true (test-ends (b .vertices) (t .start) (t .destination)) (t .asked .from, t .asked .to))
-          (pass (test-true (test-keyed (b .longest) (t .pattern)) (t .asked .pattern .keyed)) (pass (t .passes) none)))))
+          (pass (test-true (test-keyed (b .longest) (t .pattern)) (t .asked .pattern .keyed)) (pass (t .passes) none))))
 
 -- every such list
-pub agreed : (s : Station) (first : Call) (more : List Call) → Begins (givenBy first)
-    → numberFor blank (givenBy first) (fedBy (length (s .edges)) (length (s .index)) first) ≡ 0
+pub agreed : (s : Station) (first : Call) (more : List Call) → Begins (first .given)
+    → ruling blank (fedBy (length (s .edges)) (length (s .index)) first) .number ≡ 0
     → Agrees (length (s .edges)) (length (s .index)) s blank (first ∷ more)
 agreed s first more begins e =
     let m = begun s first begins e in

@@ -1,79 +1,52 @@
 -- Index memory that holds the entries a graph determines: it passes check 12 and answers rightly, and no entry can be struck out of it.
-use mathlib.Core.Path.{_≡_, refl, sym, ap, _∙_}
+use mathlib.Core.Path.{_≡_, refl, sym, _∙_}
 use mathlib.Core.Logic.{_↔_}
-use mathlib.Core.Bool.{Bool, true}
-use mathlib.Core.List.{List, [], _∷_, _++_, append-assoc, append-nil, List·Memᴰ·head, List·Memᴰ·tail}
-use Prim.Native.Nat.{ℕ, zero, suc, _+_, _*_, _-_, _/_, _%_, _≤_, _<_}
+use mathlib.Core.Bool.{Bool, true, false}
+use mathlib.Core.List.{List}
+use Prim.Native.Nat.{ℕ, zero, suc, _-_, _≤_, _<_}
 use native.Mathlib.Omega.{arith}
 use lib.Dec.{T}
 use lib.ListN.{length}
 use Rattle.model.specs.Lists.{_∈_, keep, Rising, filled}
-use Rattle.model.specs.Limits.{mostLongest}
 use Rattle.model.specs.Edges.{Graph, Small, standing}
-use Rattle.model.specs.Patterns.{Keyed, keyed?, Pattern, codeFrom, code, minRepeat}
+use Rattle.model.specs.Patterns.{Keyed, keyed?, code, minRepeat}
 use Rattle.model.specs.Walks.{Runs}
 use Rattle.model.specs.Order.{Names}
-use Rattle.model.specs.Entries.{entryOf, Asked, IsEntry, entries}
-use Rattle.model.specs.Query.{digits, code?, entry?, risingEntries?, indexMemory?, answers?}
-use Rattle.model.proofs.Tests.{test-and, test-true, test-false, test-yields}
+use Rattle.model.specs.Entries.{Asked, IsEntry, entries}
+use Rattle.model.specs.Query.{digits, code?, OfEntry, entry?, risingEntries?, indexMemory?, answers?}
+use Rattle.model.proofs.Tests.{test-true, test-false, test-yields}
 use Rattle.model.proofs.Lists.{keep-out, sorted-keep}
-use Rattle.model.proofs.Patterns.{Digits, test-keyed, test-own, code-below, min-repeat-unique, folded}
+use Rattle.model.proofs.Patterns.{min-repeat-unique, folded}
 use Rattle.model.proofs.Memory.{standing-filled}
 use Rattle.model.proofs.Entries.{entries-out, entries-rise}
-use Rattle.model.proofs.Renumber.{entry-fields}
 use Rattle.model.proofs.Query.{test-answers, right, struck-out}
-use Rattle.model.proofs.Zeros.{not-zero, rising-zeros, Ordered}
-use Rattle.model.proofs.IndexMemory.{Valid, test-entry, index-memory, answers-alone}
-use Rattle.demands.specs.Index.{Turned}
+use Rattle.model.proofs.Zeros.{rising-zeros, Ordered}
+use Rattle.model.proofs.IndexMemory.{test-entry, index-memory, answers-alone}
+use Rattle.model.proofs.Memories.{test-of-entry}
 
--- ---- the digits of the code of a pattern are the pattern
-
-digits-more : (n a c : ℕ) → 1 ≤ c → c < 16 → digits (suc n) (a * 16 + c) ≡ digits n a ++ (c ∷ [])
-unfolding digits
-digits-more n a c h k =
-    let q : (a * 16 + c) / 16 ≡ a = omega arith in
-    let r : (a * 16 + c) % 16 ≡ c = omega arith in
-    rw (not-zero (a * 16 + c) (omega arith), q, r) refl
-
-digits-from : (n a : ℕ) (l : List ℕ) (m : ℕ) → m ≡ n + length l → Digits l → digits m (codeFrom a l) ≡ digits n a ++ l
-unfolding codeFrom
-digits-from n a [] m e d = let q : m ≡ n = omega arith in rw q (sym (append-nil (digits n a)))
-digits-from n a (c ∷ l) m e d =
-    let h = d c (List·Memᴰ·head refl) in
-    digits-from (suc n) (a * 16 + c) l m (omega arith) (λ x k. d x (List·Memᴰ·tail k))
-    ∙ ap (λ (f : List ℕ). f ++ l) (digits-more n a c (h .0) (omega arith)) ∙ append-assoc (digits n a) (c ∷ []) l
-
-digits-zero : (n : ℕ) → digits n 0 ≡ []
-unfolding digits
-digits-zero zero = refl
-digits-zero (suc n) = refl
-
-digits-code : {l : List ℕ} → length l ≤ mostLongest → Digits l → digits mostLongest (code l) ≡ l
-digits-code {l} h d =
-    digits-from (mostLongest - length l) 0 l mostLongest (omega arith) d ∙ ap (λ (f : List ℕ). f ++ l) (digits-zero (mostLongest - length l))
-
-code-passes : {k : ℕ} {l : List ℕ} → k ≤ mostLongest → Pattern k l → T (code? k (code l))
-unfolding code?
-code-passes {k} {l} h p =
-    let q : digits mostLongest (code l) ≡ l = digits-code (omega (arith, p .keyed .short)) (p .keyed .labels) in
-    rw q ((test-and (test-keyed k l) (test-own l (p .keyed .long))) .passes (p .keyed, p .own))
+-- index memory that check 12 lets pass, and a question that is rightly a yes: the whole memory answers yes, the struck one no
+pub record Turned (g : Graph) (whole struck : List ℕ) : Type 0 where
+  pub passes : indexMemory? (g .vertices) (g .longest) struck ≡ true
+  pub pattern : List ℕ
+  pub start : ℕ
+  pub destination : ℕ
+  pub asked : Asked g pattern start destination
+  pub own : minRepeat pattern ≡ pattern
+  pub runs : Runs g pattern start destination
+  pub yes-before : answers? (g .vertices) whole (minRepeat pattern) start destination ≡ true
+  pub no-after : answers? (g .vertices) struck (minRepeat pattern) start destination ≡ false
 
 -- ---- each determined entry passes check 12
 
-number-valid : {n k : ℕ} {l : List ℕ} (side a b x : ℕ) → n ≤ 256 → k ≤ mostLongest → side < 2 → a < n → b < n → Pattern k l
-    → x ≡ entryOf side a b (code l) → Valid n k x
-number-valid {n} {k} {l} side a b x small short hs ha hb p e =
-    let (f, q, r, c) = entry-fields side a b (code l) (omega arith) (omega arith) (code-below short (p .keyed)) in
-    rw e (record { side = rw f hs; owner = rw q ha; hub = rw r hb; coded = rw c (code-passes short p) })
-
-is-valid : (g : Graph) {order : List ℕ} {x : ℕ} → Small g → IsEntry g order x → Valid (g .vertices) (g .longest) x
-is-valid g {x = x} small (IsEntry.out s t l q a e) =
-    number-valid 0 s t x (small .vertices-small) (small .longest-small) (omega arith) (q .from) (q .to) (q .pattern) e
-is-valid g {x = x} small (IsEntry.into s t l q a d e) =
-    number-valid 1 t s x (small .vertices-small) (small .longest-small) (omega arith) (q .to) (q .from) (q .pattern) e
+of-entry : {g : Graph} {order : List ℕ} {x : ℕ} → IsEntry g order x → OfEntry (g .vertices) (g .longest) x
+of-entry (IsEntry.out s t l q a e) =
+    record { side = 0; owner = s; hub = t; number = code l; sides = omega arith; ends = (q .from, q .to); coded = record { pattern = l; is = q .pattern; coded = refl }; is = e }
+of-entry (IsEntry.into s t l q a d e) =
+    record { side = 1; owner = t; hub = s; number = code l; sides = omega arith; ends = (q .to, q .from); coded = record { pattern = l; is = q .pattern; coded = refl }; is = e }
 
 pub entry-valid : (g : Graph) (order : List ℕ) → Small g → (x : ℕ) → x ∈ entries g order → entry? (g .vertices) (g .longest) x ≡ true
-entry-valid g order small x m = test-true (test-entry (g .vertices) (g .longest) x) (is-valid g small (entries-out g order small m))
+entry-valid g order small x m =
+    test-true (test-of-entry (g .vertices) (small .vertices-small) (g .longest) (small .longest-small) x) (of-entry (entries-out g order small m))
 
 -- ---- rising entries and then zeros pass check 12
 

@@ -1,5 +1,4 @@
 pub mod Index
-pub mod Trials
 pub mod Rising
 pub mod Numbers
 pub mod Steps
@@ -9,4 +8,8 @@ pub mod CardReader
 pub mod Cards
 pub mod Demand1
 pub mod Demand3
+pub mod Reading
+pub mod Right
+pub mod Receiving
 pub mod Demand2
+pub mod Meaning

@@ -1,18 +1,18 @@
 -- One call on the station and one turn of the ledger: what both hold, and that it stays so.
-use mathlib.Core.Path.{_≡_, refl, sym, ap, ap₂, _∙_}
-use mathlib.Core.Bool.{Bool, true, false}
-use mathlib.Core.List.{List, []}
-use Prim.Native.Nat.{ℕ, zero, suc, _≤_, _<_}
+use mathlib.Core.Path.{_≡_, refl, ap}
+use mathlib.Core.List.{List}
+use Prim.Native.Nat.{ℕ, zero, suc, _≤_}
 use native.Mathlib.Omega.{arith}
 use lib.ListN.{length}
-use Rattle.model.specs.Lists.{_∈_, filled}
+use Rattle.model.specs.Edges.{Bounds}
+use Rattle.model.specs.Lists.{filled}
 use Rattle.model.specs.Limits.{mostEdges}
 use Rattle.model.proofs.Memory.{length-filled}
-use Rattle.calls.specs.Change.{Header, Memory, Handed, back, Change}
-use Rattle.calls.proofs.Checks.{Header as Bounds}
+use Rattle.calls.specs.Call.{Header, Memory, Outcome}
+use Rattle.calls.specs.Change.{Returned, refusedWith}
 use Rattle.calls.proofs.Settling.{Result}
-use Rattle.demands.specs.Ledger.{Book, rising, bookEntries, Shown, Turn, turnWith}
-use Rattle.demands.specs.Station.{Station, memoryOf, after, shownOf, replyOf}
+use Rattle.demands.specs.Ledger.{Given, opening, insertion, removal, card, Book, rising, bookEntries, Shown, shows, Turn, turnWith}
+use Rattle.demands.specs.Station.{Station, memoryOf, after, shownTo, replyTo}
 use Rattle.demands.proofs.Rising.{EdgesOf}
 
 abbrev pub recordOf : Book → Header
@@ -38,39 +38,54 @@ module _ {slots room : ℕ} {b : Book} (f : Fine slots room b) where
   index-slots = length-filled room (bookEntries b) (f .held)
 
 -- an accepted change that leaves what the ledger then holds
-pub record Reaches (slots room : ℕ) (done : Change) (b : Book) : Type 0 where
-  pub answer : done .answer ≡ 0
-  pub handed : done .handed ≡ back (recordOf b)
+pub record Reaches (slots room : ℕ) (done : Outcome Returned) (b : Book) : Type 0 where
+  pub reply : done .reply ≡ record { header = recordOf b; answer = 0 }
   pub edges : done .memory .edges ≡ filled slots (rising (b .edges))
   pub index : done .memory .index ≡ filled room (bookEntries b)
   pub fine : Fine slots room b
 
 -- the call's reply is the ledger's, and the station afterwards holds what the ledger then does
-pub record Matches (slots room : ℕ) (s : Station) (c : Change) (t : Turn) : Type 0 where
-  pub reply : replyOf c ≡ t .reply
+pub record Matches (slots room : ℕ) (s : Station) (given : Given) (c : Outcome Returned) (t : Turn) : Type 0 where
+  pub reply : replyTo given (c .reply) ≡ t .reply
   pub next : after s c ≡ stationOf slots room (t .book)
   pub fine : Fine slots room (t .book)
 
-module _ {slots room : ℕ} (b wanted : Book) where
-  accepted : {s : Station} {c : Change} (shown : Shown) → Reaches slots room c wanted → Matches slots room s c (turnWith 0 b wanted shown)
-  accepted shown r =
-      record { reply = rw (r .answer, r .handed) refl; next = rw (r .answer, r .handed, r .edges, r .index) refl; fine = r .fine }
+-- an accepted call shows the record that it hands back
+shown-accepted : (given : Given) (h : Header) → shownTo given (record { header = h; answer = 0 }) ≡ shows (h .vertices) (h .longest)
+shown-accepted (opening vertices longest) h = refl
+shown-accepted (insertion from label to) h = refl
+shown-accepted (removal from label to) h = refl
+shown-accepted (card bytes small) h = refl
 
-  refused : {n : ℕ} {c : Change} (given : Handed) {work : List ℕ} {done : Change}
-      → Result c given (memoryOf (stationOf slots room b) work) done (suc n) → Fine slots room b
-      → Matches slots room (stationOf slots room b) c (turnWith (suc n) b wanted (shownOf given))
-  refused {n} given r f =
-      let k : 1 ≤ suc n = omega arith in
-      record { reply = rw (r .answer k, r .handed k) refl; next = rw (r .answer k, r .edges k, r .index k) refl; fine = f }
+-- a call is given what the ledger is fed, and the record; `shown` is what the ledger shows with a refusal of it
+module _ (b sets : Book) (given : Given) (h : Header) (shown : Shown) (shows-refused : (n : ℕ) → shownTo given (refusedWith h (suc n)) ≡ shown) where
+  refused-reply : {n : ℕ} {c done : Outcome Returned} {m : Memory} → Result c h m done (suc n) → replyTo given (c .reply) ≡ turnWith (suc n) b sets shown .reply
+  refused-reply {n} r = rw (r .reply (omega arith)) (ap (λ (x : Shown). record { number = suc n; shown = x }) (shows-refused n))
 
-  -- a call on a station that holds what the ledger does
-  pub matches : (n : ℕ) {c done : Change} (given : Handed) {work : List ℕ}
-      → Result c given (memoryOf (stationOf slots room b) work) done n → Fine slots room b → (n ≡ 0 → Reaches slots room done wanted)
-      → Matches slots room (stationOf slots room b) c (turnWith n b wanted (shownOf given))
-  matches zero given r f reach = rw (r .accepted refl) (accepted (shownOf given) (reach refl))
-  matches (suc n) given r f reach = refused given r f
+  module _ {slots room : ℕ} where
+    accepted : {s : Station} {c : Outcome Returned} → Reaches slots room c sets → Matches slots room s given c (turnWith 0 b sets shown)
+    accepted r =
+        record {
+          reply = rw (r .reply) (ap (λ (x : Shown). record { number = 0; shown = x }) (shown-accepted given (recordOf sets)));
+          next = rw (r .reply, r .edges, r .index) refl;
+          fine = r .fine;
+        }
 
-  -- an accepted call on any station
-  pub begins : {n : ℕ} {s : Station} {c done : Change} {given : Handed} (shown : Shown) {m : Memory} → Result c given m done n → n ≡ 0
-      → Reaches slots room done wanted → Matches slots room s c (turnWith n b wanted shown)
-  begins shown r e reach = rw (e, r .accepted e) (accepted shown reach)
+    -- a call on a station that holds what the ledger does
+    pub matches : (n : ℕ) {c done : Outcome Returned} {work : List ℕ} → Result c h (memoryOf (stationOf slots room b) work) done n → Fine slots room b
+        → (n ≡ 0 → Reaches slots room done sets) → Matches slots room (stationOf slots room b) given c (turnWith n b sets shown)
+    matches zero r f reach = rw (r .accepted refl) (accepted (reach refl))
+    matches (suc n) r f reach =
+        let k : 1 ≤ suc n = omega arith in
+        record { reply = refused-reply r; next = rw (r .reply k, r .edges k, r .index k) refl; fine = f }
+
+    -- a call on any station: the reply alone, refused or not
+    pub first-reply : (n : ℕ) (s : Station) {c done : Outcome Returned} {m : Memory} → Result c h m done n
+        → (n ≡ 0 → Reaches slots room done sets) → replyTo given (c .reply) ≡ turnWith n b sets shown .reply
+    first-reply zero s r reach = rw (r .accepted refl) (accepted {s = s} (reach refl) .reply)
+    first-reply (suc n) s r reach = refused-reply r
+
+    -- an accepted call on any station
+    pub begins : {n : ℕ} {s : Station} {c done : Outcome Returned} {m : Memory} → Result c h m done n → n ≡ 0
+        → Reaches slots room done sets → Matches slots room s given c (turnWith n b sets shown)
+    begins r e reach = rw (e, r .accepted e) (accepted reach)

@@ -3,18 +3,18 @@
 use mathlib.Core.Path.{_≡_}
 use mathlib.Core.Bool.{Bool}
 use mathlib.Core.List.{List, [], _∷_}
-use Prim.Native.Nat.{ℕ, _<_}
+use Prim.Native.Nat.{ℕ}
 use lib.Dec.{T}
 use lib.ListN.{length}
-use Rattle.model.specs.Lists.{_∈_, keep, filled}
+use Rattle.model.specs.Lists.{_∈_, keep, filled, Bytes}
 use Rattle.model.specs.Edges.{Graph}
 use Rattle.model.specs.Patterns.{Pattern}
 use Rattle.model.specs.Walks.{Runs}
 use Rattle.model.specs.Query.{No}
-use Rattle.calls.specs.Change.{Header}
+use Rattle.calls.specs.Call.{Header, lent}
 use Rattle.calls.specs.Query.{queryCall}
-use Rattle.demands.specs.Ledger.{Book, rising, bookEntries, opening, insertion, removal, card, Given, numberFor, Account, ledger}
-use Rattle.demands.specs.Station.{Call, Station, run, givenBy, fedBy, fedAll}
+use Rattle.demands.specs.Ledger.{Book, rising, bookEntries, Given, opening, card, ruling, Account, ledger}
+use Rattle.demands.specs.Station.{Call, Station, run, fedBy, fedAll}
 
 -- a ledger that holds nothing yet
 abbrev pub blank : Book
@@ -23,7 +23,7 @@ blank = record { vertices = 0; longest = 0; edges = [] }
 -- an opening or a card reading
 pub data Begins : Given → Type 0 where
   by-opening : {vertices longest : ℕ} → Begins (opening vertices longest)
-  by-card : {bytes : List ℕ} → Begins (card bytes)
+  by-card : {bytes : List ℕ} {small : Bytes bytes} → Begins (card bytes small)
 
 -- the standing edges as a graph
 abbrev pub standingGraph : Book → Graph
@@ -37,7 +37,7 @@ pub record Missed (h : Header) (b : Book) (index : List ℕ) : Type 0 where
   pub pattern : List ℕ
   pub own : Pattern (b .longest) pattern
   pub runs : Runs (standingGraph b) pattern start destination
-  pub answered : queryCall (h .vertices) (h .longest) start destination pattern index ≡ No
+  pub answered : queryCall h start destination pattern (lent [] index []) .reply ≡ No
 
 pub record Demand3 (s : Station) (calls : List Call) : Type 0 where
   -- what the ledger comes to
@@ -53,5 +53,5 @@ pub record Demand3 (s : Station) (calls : List Call) : Type 0 where
 -- for every list that begins with an opening or card reading that the ledger accepts, whatever edge, index and work memory hold
 abbrev pub Demand3Holds : Type 0
 Demand3Holds =
-    (s : Station) (first : Call) (more : List Call) → Begins (givenBy first)
-    → numberFor blank (givenBy first) (fedBy (length (s .edges)) (length (s .index)) first) ≡ 0 → Demand3 s (first ∷ more)
+    (s : Station) (first : Call) (more : List Call) → Begins (first .given)
+    → ruling blank (fedBy (length (s .edges)) (length (s .index)) first) .number ≡ 0 → Demand3 s (first ∷ more)

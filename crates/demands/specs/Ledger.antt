@@ -5,7 +5,8 @@ use mathlib.Core.List.{List, [], _∷_, map}
 use Prim.Native.Nat.{ℕ, zero, suc, _+_, _-_, _*_}
 use lib.Dec.{eqb, ltb, leb}
 use lib.ListN.{length, getD}
-use Rattle.model.specs.Lists.{keep, upTo, any?, mem?}
+use Rattle.model.specs.Lists.{keep, upTo, any?, mem?, Bytes}
+use Rattle.model.specs.Limits.{mostVertices, mostEdges, mostLabel, mostLongest, fromUnit, leastWork, headBytes, tripleBytes}
 use Rattle.model.specs.Edges.{edgeNumber}
 use Rattle.model.specs.Entries.{determined}
 
@@ -13,7 +14,7 @@ use Rattle.model.specs.Entries.{determined}
 pub data Given : Type 0 where
   opening : (vertices longest : ℕ) → Given
   insertion removal : (from label to : ℕ) → Given
-  card : (bytes : List ℕ) → Given
+  card : (bytes : List ℕ) → Bytes bytes → Given
 
 -- "and how many slots are lent as leg, index and work memory"
 pub record Fed : Type 0 where
@@ -30,7 +31,7 @@ pub record Book : Type 0 where
 
 -- "the standing legs, rising": of all numbers that an edge can have, those in the set
 unfoldable pub rising : List ℕ → List ℕ
-rising edges = keep (λ x. mem? x edges) (upTo (256 * 4096))
+rising edges = keep (λ x. mem? x edges) (upTo (mostVertices * fromUnit))
 
 -- "the entries that they determine with the ledger's places and k"
 abbrev pub bookEntries : Book → List ℕ
@@ -48,7 +49,7 @@ outside low high x = ltb x low || ltb high x
 
 -- "4 under 4,096 numbers, plus one for each index slot where an index is built"
 abbrev pub narrow : Fed → Bool
-narrow f = ltb (f .workSlots) (4096 + f .indexSlots)
+narrow f = ltb (f .workSlots) (leastWork + f .indexSlots)
 
 -- "13 fewer slots than entries needed": 13 "counts the entries determined by the legs that the call would leave"
 abbrev pub full : Book → Fed → Bool
@@ -56,18 +57,19 @@ full wanted f = ltb (f .indexSlots) (length (bookEntries wanted))
 
 -- "opening 1 2 3"
 unfoldable pub openingNumber : (vertices longest : ℕ) → Fed → ℕ
-openingNumber vertices longest f = when (outside 1 256 vertices) 1 (when (outside 1 4 longest) 2 (when (ltb 1024 (f .edgeSlots)) 3 0))
+openingNumber vertices longest f =
+    when (outside 1 mostVertices vertices) 1 (when (outside 1 mostLongest longest) 2 (when (ltb mostEdges (f .edgeSlots)) 3 0))
 
 -- "1 2 3 4 5 6" of a named edge, then what is left. "For a lay or lift the record and leg memory checked are the ledger's own places, k and
 -- legs": these are edges of the layout, so of 3 only the slots are left
 unfoldable pub namedNumber : Book → (from label to : ℕ) → Fed → ℕ → ℕ
 namedNumber b from label to f later =
-    when (outside 1 256 (b .vertices)) 1
-    (when (outside 1 4 (b .longest)) 2
-    (when (ltb 1024 (f .edgeSlots)) 3
+    when (outside 1 mostVertices (b .vertices)) 1
+    (when (outside 1 mostLongest (b .longest)) 2
+    (when (ltb mostEdges (f .edgeSlots)) 3
     (when (narrow f) 4
     (when (leb (b .vertices) from || leb (b .vertices) to) 5
-    (when (outside 1 8 label) 6 later)))))
+    (when (outside 1 mostLabel label) 6 later)))))
 
 -- the ledger with one edge (leg) more, as a lay leaves it, and with one less, as a lift does
 unfoldable pub inserted : Book → ℕ → Book
@@ -100,13 +102,16 @@ module _ (bytes : List ℕ) where
   abbrev pub edgeCount : ℕ
   edgeCount = byte 7 * 256 + byte 8
 
-  -- the bytes of edge i start at 9 + 3 i
+  -- byte j of edge i
+  abbrev pub edgeByte : ℕ → ℕ → ℕ
+  edgeByte i j = byte (headBytes + j + tripleBytes * i)
+
   abbrev pub edgeAt : ℕ → ℕ
-  edgeAt i = edgeNumber (byte (9 + 3 * i)) (byte (10 + 3 * i)) (byte (11 + 3 * i))
+  edgeAt i = edgeNumber (edgeByte i 0) (edgeByte i 1) (edgeByte i 2)
 
   -- edge i is none of a layout with the card's vertices
   abbrev pub stray : ℕ → Bool
-  stray i = (leb (byte 5 + 1) (byte (9 + 3 * i)) || leb (byte 5 + 1) (byte (11 + 3 * i))) || outside 1 8 (byte (10 + 3 * i))
+  stray i = (leb (byte 5 + 1) (edgeByte i 0) || leb (byte 5 + 1) (edgeByte i 2)) || outside 1 mostLabel (edgeByte i 1)
 
   -- edge i + 1 does not rise
   abbrev pub falls : ℕ → Bool
@@ -118,65 +123,78 @@ module _ (bytes : List ℕ) where
   -- "Read card 14 15 2 16 3 9 4 13"
   unfoldable pub cardNumber : Fed → ℕ
   cardNumber f =
-      when (ltb (length bytes) 9 || (not (eqb (byte 0) 80) || (not (eqb (byte 1) 82) || not (eqb (byte 2) 67)))) 14
+      when (ltb (length bytes) headBytes || (not (eqb (byte 0) 80) || (not (eqb (byte 1) 82) || not (eqb (byte 2) 67)))) 14
       (when (not (eqb (byte 3 * 256 + byte 4) 1)) 15
-      (when (outside 1 4 (byte 6)) 2
-      (when (not (eqb (length bytes) (9 + 3 * edgeCount)) || (any? stray (upTo edgeCount) || any? falls (upTo (edgeCount - 1)))) 16
-      (when (ltb 1024 (f .edgeSlots)) 3
+      (when (outside 1 mostLongest (byte 6)) 2
+      (when (not (eqb (length bytes) (headBytes + tripleBytes * edgeCount)) || (any? stray (upTo edgeCount) || any? falls (upTo (edgeCount - 1)))) 16
+      (when (ltb mostEdges (f .edgeSlots)) 3
       (when (ltb (f .edgeSlots) edgeCount) 9
       (when (narrow f) 4
       (when (full cardBook f) 13 0)))))))
 
--- ---- what each call does to the ledger, and its reply
-
--- "A call is refused with the first number that applies in its order above, and is accepted otherwise": 0
-abbrev pub numberFor : Book → Given → Fed → ℕ
-numberFor b (opening vertices longest) f = openingNumber vertices longest f
-numberFor b (insertion from label to) f = insertionNumber b from label to f
-numberFor b (removal from label to) f = removalNumber b from label to f
-numberFor b (card bytes) f = cardNumber bytes f
-
--- "An accepted opening sets its record's places and k, with no legs. An accepted card reading sets the card's places, k and legs. An accepted
--- lay adds its leg, an accepted lift takes its leg out; places and k stay."
-abbrev pub wantedBy : Book → Given → Book
-wantedBy b (opening vertices longest) = record { vertices = vertices; longest = longest; edges = [] }
-wantedBy b (insertion from label to) = inserted b (edgeNumber from label to)
-wantedBy b (removal from label to) = removed b (edgeNumber from label to)
-wantedBy b (card bytes) = cardBook bytes
+-- ---- what each call comes to
 
 -- the record in a reply, or none
 pub data Shown : Type 0 where
   shows : (vertices longest : ℕ) → Shown
   nothing : Shown
 
--- the number, 0 where accepted, and the record
-pub record Reply : Type 0 where
+-- "A call is refused with the first number that applies in its order above, and is accepted otherwise": 0. What an accepted call sets; and the
+-- record that is shown with a refusal
+pub record Ruling : Type 0 where
+  pub number : ℕ
+  pub sets : Book
+  pub refused : Shown
+
+abbrev pub rulingOn : Book → Fed → Given → Ruling
+-- "An accepted opening sets its record's places and k, with no legs"; refused, "the opening's record as given"
+rulingOn b f (opening vertices longest) =
+    record {
+      number = openingNumber vertices longest f;
+      sets = record { vertices = vertices; longest = longest; edges = [] };
+      refused = shows vertices longest;
+    }
+-- "An accepted lay adds its leg, an accepted lift takes its leg out; places and k stay"; refused, "the record last replied to an accepted call"
+rulingOn b f (insertion from label to) =
+    record {
+      number = insertionNumber b from label to f;
+      sets = inserted b (edgeNumber from label to);
+      refused = shows (b .vertices) (b .longest);
+    }
+rulingOn b f (removal from label to) =
+    record {
+      number = removalNumber b from label to f;
+      sets = removed b (edgeNumber from label to);
+      refused = shows (b .vertices) (b .longest);
+    }
+-- "An accepted card reading sets the card's places, k and legs"; refused, "for a card none"
+rulingOn b f (card bytes _) = record { number = cardNumber bytes f; sets = cardBook bytes; refused = nothing }
+
+abbrev pub ruling : Book → Fed → Ruling
+ruling b f = rulingOn b f (f .given)
+
+-- ---- the replies
+
+-- the number, 0 if accepted, and the record
+pub record LedgerReply : Type 0 where
   pub number : ℕ
   pub shown : Shown
 
--- "after a refusal, the number, with the opening's record as given, for a lay or lift the record last replied to an accepted call, for a card
--- none"
-abbrev pub refusedShown : Book → Given → Shown
-refusedShown b (opening vertices longest) = shows vertices longest
-refusedShown b (insertion from label to) = shows (b .vertices) (b .longest)
-refusedShown b (removal from label to) = shows (b .vertices) (b .longest)
-refusedShown b (card bytes) = nothing
-
 pub record Turn : Type 0 where
-  pub reply : Reply
+  pub reply : LedgerReply
   pub book : Book
 
--- "A refused call changes nothing. The reply is the record of the places and k then held"
+-- "A refused call changes nothing. The reply is the record of the places and k then held; after a refusal, the number, with" the record shown
 abbrev pub turnWith : ℕ → Book → Book → Shown → Turn
-turnWith zero b wanted shown = record { reply = record { number = 0; shown = shows (wanted .vertices) (wanted .longest) }; book = wanted }
-turnWith (suc n) b wanted shown = record { reply = record { number = suc n; shown = shown }; book = b }
+turnWith zero b sets refused = record { reply = record { number = 0; shown = shows (sets .vertices) (sets .longest) }; book = sets }
+turnWith (suc n) b sets refused = record { reply = record { number = suc n; shown = refused }; book = b }
 
 unfoldable pub turn : Book → Fed → Turn
-turn b f = turnWith (numberFor b (f .given) f) b (wantedBy b (f .given)) (refusedShown b (f .given))
+turn b f = turnWith (ruling b f .number) b (ruling b f .sets) (ruling b f .refused)
 
 -- the replies of a list of calls, and what the ledger then holds
 pub record Account : Type 0 where
-  pub replies : List Reply
+  pub replies : List LedgerReply
   pub book : Book
 
 unfoldable pub ledger : Book → List Fed → Account

@@ -2,15 +2,15 @@
 use mathlib.Core.List.{List, [], _∷_, map}
 use Prim.Native.Nat.{ℕ, zero, suc}
 use lib.ListN.{length}
-use Rattle.calls.specs.Change.{Header, Memory, Handed, back, none, Change, numbersOf, openCall, insertCall, removeCall}
-use Rattle.calls.specs.Card.{Bytes, readCall}
-use Rattle.demands.specs.Ledger.{Given, opening, insertion, removal, card, Fed, Shown, shows, nothing, Reply}
+use Rattle.calls.specs.Call.{Header, Memory, lent, Outcome}
+use Rattle.calls.specs.Change.{Returned, openCall, insertCall, removeCall}
+use Rattle.calls.specs.Card.{readCall}
+use Rattle.demands.specs.Ledger.{Given, opening, insertion, removal, card, Fed, Shown, shows, nothing, LedgerReply}
 
--- a call, with the work memory lent to it
-pub data Call : Type 0 where
-  opens : Header → Call
-  insert remove : (from label to : ℕ) (work : List ℕ) → Call
-  read : (card : List ℕ) → Bytes card → (work : List ℕ) → Call
+-- a call: what it is given, and the work memory lent to it (an opening uses none)
+pub record Call : Type 0 where
+  pub given : Given
+  pub work : List ℕ
 
 -- edge and index memory, and the record of the last accepted change
 pub record Station : Type 0 where
@@ -19,57 +19,55 @@ pub record Station : Type 0 where
   pub index : List ℕ
 
 abbrev pub memoryOf : Station → List ℕ → Memory
-memoryOf s work = record { edges = s .edges; index = s .index; work = work }
+memoryOf s work = lent (s .edges) (s .index) work
 
 -- what a call comes to: each insertion and removal is handed the record of the last accepted change
-abbrev pub change : Station → Call → Change
-change s (opens h) = openCall h (memoryOf s [])
-change s (insert from label to work) = insertCall (s .header) from label to (memoryOf s work)
-change s (remove from label to work) = removeCall (s .header) from label to (memoryOf s work)
-change s (read bytes _ work) = readCall bytes (memoryOf s work)
+abbrev pub changeOn : Station → List ℕ → Given → Outcome Returned
+changeOn s work (opening vertices longest) = openCall (record { vertices = vertices; longest = longest }) (memoryOf s [])
+changeOn s work (insertion from label to) = insertCall (s .header) from label to (memoryOf s work)
+changeOn s work (removal from label to) = removeCall (s .header) from label to (memoryOf s work)
+changeOn s work (card bytes _) = readCall bytes (memoryOf s work)
 
--- the record after a call
-abbrev pub headerAfter : ℕ → Header → Handed → Header
-headerAfter zero h handed = numbersOf handed
-headerAfter (suc n) h handed = h
+abbrev pub change : Station → Call → Outcome Returned
+change s c = changeOn s (c .work) (c .given)
 
-abbrev pub after : Station → Change → Station
-after s c = record { header = headerAfter (c .answer) (s .header) (c .handed); edges = c .memory .edges; index = c .memory .index }
+-- the record of the last accepted change: the one handed back if the call is accepted
+abbrev pub headerAfter : ℕ → (last handed : Header) → Header
+headerAfter zero last handed = handed
+headerAfter (suc n) last handed = last
 
--- the reply as the ledger would tell it
-abbrev pub shownOf : Handed → Shown
-shownOf (back h) = shows (h .vertices) (h .longest)
-shownOf none = nothing
+abbrev pub after : Station → Outcome Returned → Station
+after s c =
+    record { header = headerAfter (c .reply .answer) (s .header) (c .reply .header); edges = c .memory .edges; index = c .memory .index }
 
-abbrev pub replyOf : Change → Reply
-replyOf c = record { number = c .answer; shown = shownOf (c .handed) }
+-- the reply as the ledger would tell it: the record shown is the one handed back, except that a refused card shows none
+abbrev pub shownCard : ℕ → Header → Shown
+shownCard zero h = shows (h .vertices) (h .longest)
+shownCard (suc n) h = nothing
+
+abbrev pub shownTo : Given → Returned → Shown
+shownTo (opening vertices longest) r = shows (r .header .vertices) (r .header .longest)
+shownTo (insertion from label to) r = shows (r .header .vertices) (r .header .longest)
+shownTo (removal from label to) r = shows (r .header .vertices) (r .header .longest)
+shownTo (card bytes _) r = shownCard (r .answer) (r .header)
+
+abbrev pub replyTo : Given → Returned → LedgerReply
+replyTo given r = record { number = r .answer; shown = shownTo given r }
 
 pub record Run : Type 0 where
-  pub replies : List Reply
+  pub replies : List LedgerReply
   pub station : Station
 
 unfoldable pub run : Station → List Call → Run
 run s [] = record { replies = []; station = s }
 run s (c ∷ more) =
     let rest = run (after s (change s c)) more in
-    record { replies = replyOf (change s c) ∷ rest .replies; station = rest .station }
+    record { replies = replyTo (c .given) (change s c .reply) ∷ rest .replies; station = rest .station }
 
 -- ---- what the ledger is shown of a call: what it is given and how many slots are lent, not what memory holds
 
-abbrev pub givenBy : Call → Given
-givenBy (opens h) = opening (h .vertices) (h .longest)
-givenBy (insert from label to work) = insertion from label to
-givenBy (remove from label to work) = removal from label to
-givenBy (read bytes _ work) = card bytes
-
-abbrev pub workOf : Call → ℕ
-workOf (opens h) = 0
-workOf (insert from label to work) = length work
-workOf (remove from label to work) = length work
-workOf (read bytes _ work) = length work
-
 abbrev pub fedBy : (edgeSlots indexSlots : ℕ) → Call → Fed
-fedBy edgeSlots indexSlots c = record { given = givenBy c; edgeSlots = edgeSlots; indexSlots = indexSlots; workSlots = workOf c }
+fedBy edgeSlots indexSlots c = record { given = c .given; edgeSlots = edgeSlots; indexSlots = indexSlots; workSlots = length (c .work) }
 
 -- the ledger of a station's calls: edge and index memory are the same throughout
 abbrev pub fedAll : Station → List Call → List Fed

@@ -8,19 +8,19 @@ use native.Mathlib.Omega.{arith}
 use lib.ListN.{length, getD, take}
 use lib.Seq.{getD-take, length-take-le}
 use borrow.Author.Tests.{lt-ltb, le-ltb}
-use Rattle.model.specs.Lists.{Rising, Bracket}
+use Rattle.model.specs.Lists.{Rising, lowerBound, Bracket}
 use Rattle.model.proofs.Halving.{bracket-start, bracket-right, bracket-left}
-use Rattle.edges.specs.Memory.{below, findOf}
+use Rattle.edges.specs.Memory.{findOf}
 use Rattle.edges.specs.declared.Found.the-variants.{At, Before}
 use Rattle.edges.proofs.Memory.{find-at, find-before}
 
-below-is : (x : ℕ) (ys : List ℕ) (k : ℕ) → k ≤ length ys → ((i : ℕ) → i < k → getD ys i 0 < x) → (k < length ys → x ≤ getD ys k 0) → below x ys ≡ k
-unfolding below
-below-is x [] k h u a = omega arith
-below-is x (y ∷ ys) zero h u a = rw (le-ltb y x (a (omega arith))) refl
-below-is x (y ∷ ys) (suc k) h u a =
+bound-is : (x : ℕ) (ys : List ℕ) (k : ℕ) → k ≤ length ys → ((i : ℕ) → i < k → getD ys i 0 < x) → (k < length ys → x ≤ getD ys k 0) → lowerBound x ys ≡ k
+unfolding lowerBound
+bound-is x [] k h u a = omega arith
+bound-is x (y ∷ ys) zero h u a = rw (le-ltb y x (a (omega arith))) refl
+bound-is x (y ∷ ys) (suc k) h u a =
     rw (lt-ltb y x (u 0 (omega arith)))
-    (ap suc (below-is x ys k (le-of-suc-le-suc h) (λ i l. u (suc i) (suc-le-suc l)) (λ l. a (suc-le-suc l))))
+    (ap suc (bound-is x ys k (le-of-suc-le-suc h) (λ i l. u (suc i) (suc-le-suc l)) (λ l. a (suc-le-suc l))))
 
 -- edge x is sought among the first n: the two ends bracket its slot
 pub record Sought (edges : List ℕ) (n x lo hi : ℕ) : Type 0 where
@@ -52,8 +52,8 @@ module _ {edges : List ℕ} {n x lo hi : ℕ} (s : Sought edges n x lo hi) where
         record { room = s .room; rising = s .rising; high = omega (arith, s .high); ends = bracket-left (s .rising) (s .ends) mid low under (rw e l) }
 
   module _ (met : hi ≤ lo) where
-    place : below x (take n edges) ≡ lo
-    place = below-is x (take n edges) lo (omega (arith, s .ends .met, s .ends .most)) (s .ends .under) (λ h. s .ends .above lo met h)
+    place : lowerBound x (take n edges) ≡ lo
+    place = bound-is x (take n edges) lo (omega (arith, s .ends .met, s .ends .most)) (s .ends .under) (λ h. s .ends .above lo met h)
 
     pub sought-at : lo < n → getD edges lo 0 ≡ x → findOf x (take n edges) ≡ At lo
     sought-at h q = find-at x (take n edges) place (omega (arith, size)) (rw (slot lo h) q)

@@ -10,7 +10,7 @@ use Rattle.model.specs.Lists.{filled}
 use Rattle.model.specs.Edges.{standing, insertEdge, removeEdge}
 use Rattle.edges.specs.Memory.{Holds, Insertable, Removable}
 use Rattle.edges.proofs.Mix.{Mixed, front-start, front-turn, front-end, back-start, back-turn, back-end}
-use Rattle.edges.proofs.Memory.{Placed, last, here, past, placed, placed-most, Removed, first, later, removed}
+use Rattle.model.proofs.Insertion.{Placed, last, here, past, placed, placed-most, Removed, first, later, removed}
 use Rattle.edges.proofs.Memory.{holds-within, length-insert, length-remove}
 use Rattle.model.proofs.Lists.{getD-in}
 use Rattle.model.proofs.Memory.{length-filled}

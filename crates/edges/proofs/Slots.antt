@@ -11,7 +11,7 @@ use lib.Seq.{getD-set-same, getD-set-other}
 use borrow.Author.Count.{below-more}
 use borrow.Author.Tests.{eq-eqb, ne-eqb}
 use Rattle.model.specs.Lists.{Rising}
-use Rattle.model.specs.Limits.{mostVertices}
+use Rattle.model.specs.Limits.{mostVertices, fromUnit}
 use Rattle.model.specs.Edges.{zeros?}
 use Rattle.model.proofs.Lists.{rising-le}
 use Rattle.model.proofs.Zeros.{zeros-stop, zeros-more, zeros-end}
@@ -51,10 +51,10 @@ skipped-zeros {edges} {n} k = elim (ℕ-discrete n (length edges)) [
 pub starts-none : (edges : List ℕ) → Starts edges (replicate mostVertices 0)
 starts-none edges = record {
   long = length-replicate {A = ℕ} mostVertices 0;
-  under = λ v h. rw (getD-replicate {A = ℕ} mostVertices v 0 0 h) (under-none edges (v * 4096));
+  under = λ v h. rw (getD-replicate {A = ℕ} mostVertices v 0 0 h) (under-none edges (v * fromUnit));
 }
 
-pub starts-set : {edges slots : List ℕ} (v i : ℕ) → v < mostVertices → Starts edges slots → Under edges (v * 4096) i → Starts edges (set slots v i)
+pub starts-set : {edges slots : List ℕ} (v i : ℕ) → v < mostVertices → Starts edges slots → Under edges (v * fromUnit) i → Starts edges (set slots v i)
 starts-set {edges} {slots} v i h st u = record {
   long = length-set slots v i ∙ st .long;
   under = λ x k. elim (ℕ-discrete x v) [

@@ -3,7 +3,7 @@ use mathlib.Core.Path.{_≡_}
 use mathlib.Core.List.{List}
 use Prim.Native.Nat.{ℕ, _*_, _≤_, _<_}
 use lib.ListN.{length, getD}
-use Rattle.model.specs.Limits.{mostVertices}
+use Rattle.model.specs.Limits.{mostVertices, fromUnit}
 
 -- the numbers before slot n are below key
 pub record Under (edges : List ℕ) (key n : ℕ) : Type 0 where
@@ -18,4 +18,4 @@ pub record Skipped (edges : List ℕ) (key n : ℕ) : Type 0 where
 -- slot v of the table: no edge before that slot starts at v or above
 pub record Starts (edges slots : List ℕ) : Type 0 where
   pub long : length slots ≡ mostVertices
-  pub under : (v : ℕ) → v < mostVertices → Under edges (v * 4096) (getD slots v 0)
+  pub under : (v : ℕ) → v < mostVertices → Under edges (v * fromUnit) (getD slots v 0)

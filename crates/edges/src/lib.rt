@@ -1,17 +1,23 @@
 // Edge memory: the numbers of edges, check 3, lookup, insertion and removal, zeroing, and copies for a change that is tried.
+use model::FROM_UNIT;
+use model::LABEL_UNIT;
+use model::MOST_EDGES;
+use model::MOST_VERTICES;
 ghost use mathlib.Core.Path.{_≡_};
 ghost use mathlib.Core.Bool.{Bool};
 ghost use mathlib.Core.List.{_++_};
-ghost use Prim.Native.Nat.{_≤_, _<_};
+ghost use Prim.Native.Nat.{_/_, _≤_, _<_};
 ghost use lib.ListN.{length, take, drop};
-ghost use Rattle.model.specs.Limits.{mostVertices};
+ghost use Rattle.model.specs.Limits.{mostVertices, fromUnit, labelUnit};
 ghost use Rattle.model.specs.Lists.{Rising, filled, zeroed};
 ghost use Rattle.model.specs.Edges.{edgeNumber, edge?, zeros?, standing, insertEdge, removeEdge};
 ghost use Rattle.edges.specs.Slots.{Under, Skipped, Starts};
 ghost use Rattle.edges.specs.Memory.{scanOf, findOf, Insertable, Removable, Narrow};
 
-// The most slots that edge memory may have (check 3).
-const MOST_EDGES: usize = 1024;
+// How many numbers the label's field of an edge number has room for.
+pub const LABELS: u32 = FROM_UNIT / LABEL_UNIT;
+
+const MOST_LABEL: u32 = model::MOST_LABEL as u32;
 
 // What check 3 finds: how many edges stand, or that this is no edge memory of the graph.
 pub enum Scanned {
@@ -26,26 +32,26 @@ pub enum Found {
 }
 
 pub fn edge_number(from: u32, label: u32, to: u32) -> u32
-    requires { ⌜ (from < 256) × ((label < 16) × (to < 256)) ⌝ }
+    requires { ⌜ (from < mostVertices) × ((label < fromUnit / labelUnit) × (to < labelUnit)) ⌝ }
     ensures { λ r. ⌜ r ≡ edgeNumber from label to ⌝ }
 {
-    from * 4096 + label * 256 + to
+    from * FROM_UNIT + label * LABEL_UNIT + to
 }
 
 pub fn is_edge(vertices: u32, x: u32) -> bool
     ensures { λ r. ⌜ r ≡ edge? vertices x ⌝ }
 {
-    if vertices <= x / 4096 {
+    if vertices <= x / FROM_UNIT {
         return false;
     }
-    let label = x / 256 % 16;
+    let label = x / LABEL_UNIT % LABELS;
     if label < 1 {
         return false;
     }
-    if 8 < label {
+    if MOST_LABEL < label {
         return false;
     }
-    x % 256 < vertices
+    x % LABEL_UNIT < vertices
 }
 
 pub fn all_zero(s: &[u32]) -> bool
@@ -120,15 +126,15 @@ pub fn skip(edges: &[u32], from: usize, key: u32) -> usize
 }
 
 // For each vertex, the slot where its edges start, so that a search looks at a vertex's own edges only.
-pub fn first_slots(vertices: u32, edges: &[u32]) -> [usize; 256]
+pub fn first_slots(vertices: u32, edges: &[u32]) -> [usize; MOST_VERTICES]
     requires { ⌜ vertices ≤ mostVertices ⌝ }
     ensures { λ r. ⌜ Starts (now (edges .entry)) r ⌝ }
 {
-    let mut slots = [0usize; 256];
+    let mut slots = [0usize; MOST_VERTICES];
     let mut i = 0;
     let mut v: u32 = 0;
     while v < vertices {
-        i = skip(edges, i, v * 4096);
+        i = skip(edges, i, v * FROM_UNIT);
         slots[v as usize] = i;
         v += 1;
     }

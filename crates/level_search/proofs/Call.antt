@@ -1,5 +1,5 @@
 -- From what the checks leave to the search, and from what it finds to the call's reply.
-use mathlib.Core.Path.{_≡_, ap, _∙_}
+use mathlib.Core.Path.{_≡_, refl, ap, _∙_}
 use mathlib.Core.List.{List}
 use Prim.Native.Nat.{ℕ, _≤_}
 use native.Mathlib.Omega.{arith}
@@ -12,12 +12,16 @@ use Rattle.model.proofs.Patterns.{keyed-up, folded-length, folded-take, repeat-
 use Rattle.model.proofs.Search.{reply-as}
 use Rattle.edges.proofs.Memory.{Scans}
 use Rattle.checks.proofs.LayoutChecks.{layout-header, layout-memory}
-use Rattle.calls.specs.Search.{searchCall, SearchMeets}
-use Rattle.calls.proofs.Search.{search-accepted}
-use Rattle.level_search.specs.Run.{Passes, Searchable, Finds}
+use Rattle.model.specs.Levels.{Refused}
+use Rattle.model.specs.Replies.{numberOf, replyOf}
+use Rattle.model.specs.declared.Refusal.{Refusal}
+use Rattle.calls.specs.Call.{Header, Memory, Meets}
+use Rattle.calls.specs.Search.{searchRefusal, searchCall}
+use Rattle.calls.proofs.Calls.{refused-meets, accepted-is}
+use Rattle.level_search.specs.Run.{SearchPasses, Searchable, Searches}
 
-module _ {vertices longest s t : ℕ} {pattern edges work : List ℕ} {n : ℕ} (p : Passes vertices longest s t pattern edges work n) (size : ℕ) (is : size ≡ foldedLength pattern) where
-  edge-memory : Scans vertices edges n
+module _ {h : Header} {s t : ℕ} {pattern : List ℕ} {m : Memory} {n : ℕ} (p : SearchPasses h s t pattern m n) (size : ℕ) (is : size ≡ foldedLength pattern) where
+  edge-memory : Scans (h .vertices) (m .edges) n
   edge-memory = layout-memory (p .layout)
 
   keyed : Keyed mostLongest pattern
@@ -27,16 +31,16 @@ module _ {vertices longest s t : ℕ} {pattern edges work : List ℕ} {n : ℕ} 
   folded : size ≡ length (minRepeat pattern)
   folded = is ∙ folded-length pattern keyed
 
-  pub part-edges : n ≤ length edges
+  pub part-edges : n ≤ length (m .edges)
   part-edges = edge-memory .within
 
   pub part-pattern : size ≤ length pattern
   part-pattern = omega (arith, folded, repeat-short pattern (p .keyed .long))
 
   front : take size pattern ≡ minRepeat pattern
-  front = ap (λ (m : ℕ). take m pattern) is ∙ folded-take pattern keyed
+  front = ap (λ (k : ℕ). take k pattern) is ∙ folded-take pattern keyed
 
-  pub searchable : Searchable vertices (take n edges) (take size pattern) s t
+  pub searchable : Searchable (h .vertices) (take n (m .edges)) (take size pattern) s t
   searchable = rw (edge-memory .front, front) (record {
     vertices-small = layout-header (p .layout) .vertices-most;
     rises = edge-memory .rising;
@@ -46,8 +50,19 @@ module _ {vertices longest s t : ℕ} {pattern edges work : List ℕ} {n : ℕ} 
     destination = p .destination-vertex;
   })
 
-  pub meets : {limit : ℕ} {r : SearchReply} {work′ : List ℕ} → Finds vertices (take n edges) (take size pattern) s t limit work r work′
-      → SearchMeets (searchCall vertices longest s t pattern limit edges work) r work′
-  meets {limit} f = search-accepted vertices longest s t pattern limit edges work (p .is)
-      (f .reply ∙ rw (edge-memory .front, front) (reply-as vertices (standing edges) (minRepeat pattern) t 0 longest s limit))
-      (f .work-after)
+  pub meets : {limit : ℕ} {r : SearchReply} {work′ : List ℕ} → Searches (h .vertices) (take n (m .edges)) (take size pattern) s t limit (m .work) r work′
+      → Meets (searchCall h s t pattern limit m) (replyOf r) (record { edges = m .edges; index = m .index; work = work′; output = m .output })
+  unfolding searchCall
+  meets {limit} f = rw (accepted-is Refused m _ (searchRefusal h s t pattern m) (p .is)) (record {
+    reply-is = f .reply ∙ rw (edge-memory .front, front) (reply-as (h .vertices) (standing (m .edges)) (minRepeat pattern) t 0 (h .longest) s limit);
+    edges-after = refl;
+    index-after = refl;
+    work-after = f .work-after;
+    output-after = refl;
+  })
+
+-- a refusal leaves everything as it was
+pub search-refused : (h : Header) (s t : ℕ) (pattern : List ℕ) (limit : ℕ) (m : Memory) (r : Refusal) → searchRefusal h s t pattern m ≡ numberOf r
+    → Meets (searchCall h s t pattern limit m) (Refused (numberOf r)) m
+unfolding searchCall
+search-refused h s t pattern limit m r e = refused-meets Refused m _ (searchRefusal h s t pattern m) r e

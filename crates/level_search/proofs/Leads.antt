@@ -9,9 +9,9 @@ use native.Mathlib.Omega.{arith}
 use native.Mathlib.Decide.{decLt}
 use lib.ListN.{length, getD}
 use Rattle.model.specs.Limits.{mostVertices}
-use Rattle.model.specs.Levels.{usedOf, vertexOf, Leads}
-use Rattle.model.proofs.Lists.{getD-in, in-getD, Index}
-use Rattle.level_search.specs.Work.{Ahead, Grown, Next, Short, queue}
+use Rattle.model.specs.Levels.{Leads}
+use Rattle.model.proofs.Lists.{getD-in, in-getD}
+use Rattle.level_search.specs.Work.{Ahead, Grown, LedTo, Short, queue}
 use Rattle.level_search.proofs.Grow.{grown-none, grown-then, grown-as}
 
 -- the least number of an edge of the next label from state x
@@ -45,17 +45,17 @@ module _ (edges l : List ℕ) (x y : ℕ) where
   leads-fit s h = let p : y / 256 ≡ suc (x / 256) % length l = h .next in omega (arith, mod-lt (suc (x / 256)) {m = length l} (s .least))
 
 module _ (edges l : List ℕ) (lo : ℕ) where
-  pub next-none : (w₀ w : List ℕ) (n : ℕ) → Grown w n w n (Next edges l w₀ lo lo)
+  pub next-none : (w₀ w : List ℕ) (n : ℕ) → Grown w n w n (LedTo edges l w₀ lo lo)
   next-none w₀ w n = grown-as (grown-none w n) (λ y e. absurd e) (λ y a. omega (arith, a .from, a .to))
 
-  pub next-more : {w₀ w w₁ w₂ : List ℕ} {n n₁ n₂ k : ℕ} → lo ≤ k → Grown w n w₁ n₁ (Next edges l w₀ lo k)
-      → Grown w₁ n₁ w₂ n₂ (Leads edges l (queue w₀ k)) → Grown w n w₂ n₂ (Next edges l w₀ lo (k + 1))
+  pub next-more : {w₀ w w₁ w₂ : List ℕ} {n n₁ n₂ k : ℕ} → lo ≤ k → Grown w n w₁ n₁ (LedTo edges l w₀ lo k)
+      → Grown w₁ n₁ w₂ n₂ (Leads edges l (queue w₀ k)) → Grown w n w₂ n₂ (LedTo edges l w₀ lo (k + 1))
   next-more {w₀} {k = k} h g g′ = grown-as (grown-then g g′) into back
     where
-      into : (y : ℕ) → Next edges l w₀ lo k y ⊎ Leads edges l (queue w₀ k) y → Next edges l w₀ lo (k + 1) y
+      into : (y : ℕ) → LedTo edges l w₀ lo k y ⊎ Leads edges l (queue w₀ k) y → LedTo edges l w₀ lo (k + 1) y
       into y p = ⊎-elim (λ a. record { k = a .k; from = a .from; to = omega (arith, a .to); led = a .led }) (λ e. record { k = k; from = h; to = omega arith; led = e }) p
 
-      back : (y : ℕ) → Next edges l w₀ lo (k + 1) y → Next edges l w₀ lo k y ⊎ Leads edges l (queue w₀ k) y
+      back : (y : ℕ) → LedTo edges l w₀ lo (k + 1) y → LedTo edges l w₀ lo k y ⊎ Leads edges l (queue w₀ k) y
       back y a = elim (decLt (a .k) k) [
         | yes b ↦ inl (record { k = a .k; from = a .from; to = b; led = a .led })
         | no b ↦ inr (subst (λ (j : ℕ). Leads edges l (queue w₀ j) y) (same b) (a .led))

@@ -1,30 +1,28 @@
 -- Work memory stands at level c: the queue from lo up to hi is level c, and the marks are levels 1 to c. So it stands at the start, and
 -- after each level that is built; and how the reply goes on from there.
-use mathlib.Core.Path.{_≡_, refl, sym, ap, _∙_, subst}
-use mathlib.Core.Bool.{Bool, true}
+use mathlib.Core.Path.{_≡_, sym, ap, _∙_, subst}
 use mathlib.Core.List.{List}
-use mathlib.Core.Logic.{_⊎_, inl, inr, ⊎-elim}
-use Prim.Native.Nat.{ℕ, zero, suc, _+_, _-_, _*_, _/_, _%_, _≤_, _<_, zero-le}
+use mathlib.Core.Logic.{⊎-elim}
+use Prim.Native.Nat.{ℕ, suc, _+_, _-_, _/_, _≤_, _<_, zero-le}
 use native.Mathlib.Nat.{le-refl, eq-or-lt-of-le, le-of-suc-le-suc, sub-zero}
 use native.Mathlib.Numerals.{add-one}
 use native.Mathlib.Omega.{arith}
-use lib.Dec.{T}
-use lib.ListN.{length, getD, set, replicate, length-set, length-replicate, getD-replicate}
+use lib.ListN.{getD, set, replicate, length-set, length-replicate, getD-replicate}
 use lib.Seq.{getD-set-same, getD-set-other}
 use Rattle.model.specs.Lists.{_∈_}
 use Rattle.model.specs.Limits.{mostVertices, leastWork}
-use Rattle.model.specs.Edges.{bare, edge?, toOf}
-use Rattle.model.specs.Levels.{vertexOf, mostStates, Leads, stage, level, Reply, Yes, No, Spent, replyFrom, levelReply}
-use Rattle.model.proofs.Levels.{IsState, Fresh, Met, look, Reached, level-zero, level-iff}
+use Rattle.model.specs.Edges.{bare}
+use Rattle.model.specs.Levels.{IsState, Fresh, Reached, vertexOf, mostStates, Leads, stage, level, Yes, No, Spent, replyFrom, levelReply}
+use Rattle.model.proofs.Levels.{Met, look, level-zero, level-iff}
 use Rattle.model.proofs.Edges.{edge-to}
 use Rattle.model.proofs.Search.{reply-yes, reply-no, reply-on}
-use Rattle.level_search.specs.Work.{marks, queue, Room, At, Grown, Next, Fit, Short}
+use Rattle.level_search.specs.Work.{queue, Room, At, Grown, LedTo, Fit, Short}
 use Rattle.level_search.specs.Run.{Searchable, foundBy}
 use Rattle.level_search.proofs.Marks.{marks-far, marks-zero}
 use Rattle.level_search.proofs.Leads.{leads-fit}
 
 module _ (vertices : ℕ) (edges l : List ℕ) (s : ℕ) where
-  pub record Stands (c : ℕ) (w : List ℕ) (lo hi : ℕ) : Type 0 where
+  pub record LevelStands (c : ℕ) (w : List ℕ) (lo hi : ℕ) : Type 0 where
     pub room : Room w hi
     pub ends : lo ≤ hi
     pub fit : Fit l w lo hi
@@ -40,20 +38,20 @@ module _ (vertices : ℕ) (edges l : List ℕ) (s : ℕ) where
   pub met-now : {c y : ℕ} → y ∈ level (bare vertices edges) l s (suc c) → Met (bare vertices edges) l s (suc c) y
   met-now {c} m = record { at = suc c; first = omega arith; last = le-refl (suc c); stands = m }
 
-  module _ {t : ℕ} (p : Searchable vertices edges l s t) {c : ℕ} {w : List ℕ} {lo hi : ℕ} (a : Stands c w lo hi) {w′ : List ℕ} {end : ℕ} (g : Grown w hi w′ end (Next edges l w lo hi)) where
-    next-state : (y : ℕ) → Next edges l w lo hi y → IsState (bare vertices edges) l y
+  module _ {t : ℕ} (p : Searchable vertices edges l s t) {c : ℕ} {w : List ℕ} {lo hi : ℕ} (a : LevelStands c w lo hi) {w′ : List ℕ} {end : ℕ} (g : Grown w hi w′ end (LedTo edges l w lo hi)) where
+    next-state : (y : ℕ) → LedTo edges l w lo hi y → IsState (bare vertices edges) l y
     next-state y n = record {
       bound = leads-fit edges l (queue w (n .k)) y (p .short) (n .led);
       vertex = edge-to vertices (vertexOf (queue w (n .k))) (getD l (queue w (n .k) / mostVertices) 0) (vertexOf y) (omega arith) (p .valid _ (n .led .stands));
     }
 
     -- a state that is led to and fresh is in the next level
-    next-level : (y : ℕ) → Next edges l w lo hi y → Fresh (bare vertices edges) l s c y → y ∈ level (bare vertices edges) l s (suc c)
+    next-level : (y : ℕ) → LedTo edges l w lo hi y → Fresh (bare vertices edges) l s c y → y ∈ level (bare vertices edges) l s (suc c)
     next-level y n f = level-iff (bare vertices edges) l s c y .1
         (record { is-state = next-state y n; fresh = f; source = (queue w (n .k), a .in-level (n .k) (n .from) (n .to), n .led) })
 
     -- and a state of the next level is led to
-    level-next : (y : ℕ) → Reached (bare vertices edges) l s c y → Next edges l w lo hi y
+    level-next : (y : ℕ) → Reached (bare vertices edges) l s c y → LedTo edges l w lo hi y
     level-next y r =
         let (x, m, led) = r .source in
         let q = a .all-level x m in
@@ -65,7 +63,7 @@ module _ (vertices : ℕ) (edges l : List ℕ) (s : ℕ) where
     queued : (k : ℕ) → hi ≤ k → k < end → queue w′ k ∈ level (bare vertices edges) l s (suc c)
     queued k h b = next-level _ (g .by k h b) (λ j f e m. g .new k h b (a .all-met _ (record { at = j; first = f; last = e; stands = m }) .1))
 
-    pub stands-next : Stands (suc c) w′ hi end
+    pub stands-next : LevelStands (suc c) w′ hi end
     stands-next = record {
       room = g .room (a .room);
       ends = g .more;
@@ -83,7 +81,7 @@ module _ (vertices : ℕ) (edges l : List ℕ) (s : ℕ) where
     }
 
   -- at the start
-  pub stands-start : (n : ℕ) → s < mostVertices → Short l → leastWork ≤ n → Stands 0 (set (replicate n 0) mostStates s) 0 1
+  pub stands-start : (n : ℕ) → s < mostVertices → Short l → leastWork ≤ n → LevelStands 0 (set (replicate n 0) mostStates s) 0 1
   stands-start n h sh b = record {
     room = record {
       long = omega (arith, length-set (replicate n 0) mostStates s, length-replicate {A = ℕ} n 0);
@@ -112,12 +110,12 @@ module _ (vertices : ℕ) (edges l : List ℕ) (s : ℕ) where
     -- c levels are built, none of them had (t, 0), and work memory stands at the last
     pub record Built (w : List ℕ) (lo hi c : ℕ) : Type 0 where
       pub within : c ≤ limit
-      pub stands : Stands c w lo hi
+      pub stands : LevelStands c w lo hi
       pub unseen : Met (bare vertices edges) l s c t → ⊥
       pub so-far : foundBy vertices edges l s t limit ≡ replyFrom (bare vertices edges) l t (limit - c) c (stage (bare vertices edges) l s c)
 
-    module _ (p : Searchable vertices edges l s t) {w : List ℕ} {lo hi c : ℕ} (b : Built w lo hi c) (more : c < limit) {w′ : List ℕ} {end : ℕ} (g : Grown w hi w′ end (Next edges l w lo hi)) where
-      now-at : Stands (suc c) w′ hi end
+    module _ (p : Searchable vertices edges l s t) {w : List ℕ} {lo hi c : ℕ} (b : Built w lo hi c) (more : c < limit) {w′ : List ℕ} {end : ℕ} (g : Grown w hi w′ end (LedTo edges l w lo hi)) where
+      now-at : LevelStands (suc c) w′ hi end
       now-at = stands-next p (b .stands) g
 
       -- one level more
@@ -157,7 +155,7 @@ module _ (vertices : ℕ) (edges l : List ℕ) (s : ℕ) where
         let same : limit ≡ c = omega (arith, b .within) in
         ap Spent same ∙ sym (b .so-far ∙ ap (λ (n : ℕ). replyFrom (bare vertices edges) l t n c (stage (bare vertices edges) l s c)) none)
 
-    pub built-start : {w : List ℕ} → Stands 0 w 0 1 → Built w 0 1 0
+    pub built-start : {w : List ℕ} → LevelStands 0 w 0 1 → Built w 0 1 0
     unfolding levelReply
     built-start a = record {
       within = zero-le;

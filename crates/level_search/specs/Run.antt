@@ -11,6 +11,7 @@ use Rattle.model.specs.Patterns.{Keyed}
 use Rattle.model.specs.Levels.{Reply, levelReply}
 use Rattle.model.specs.Replies.{numberOf, replyOf}
 use Rattle.model.specs.declared.SearchReply.{SearchReply}
+use Rattle.calls.specs.Call.{Header, Memory}
 use Rattle.calls.specs.Search.{searchRefusal}
 use Rattle.checks.specs.declared.Standing.{Standing}
 use Rattle.checks.specs.declared.Standing.the-variants.{Edges, Refused}
@@ -30,21 +31,21 @@ abbrev pub foundBy : ℕ → List ℕ → List ℕ → ℕ → ℕ → ℕ → R
 foundBy vertices edges l s t limit = levelReply (bare vertices edges) l s t limit
 
 -- the search's contract: the reply is the levels', and work memory ends zero
-pub record Finds (vertices : ℕ) (edges l : List ℕ) (s t limit : ℕ) (work : List ℕ) (r : SearchReply) (work′ : List ℕ) : Type 0 where
+pub record Searches (vertices : ℕ) (edges l : List ℕ) (s t limit : ℕ) (work : List ℕ) (r : SearchReply) (work′ : List ℕ) : Type 0 where
   pub reply : replyOf r ≡ foundBy vertices edges l s t limit
   pub work-after : work′ ≡ zeroed work
 
 -- ---- what the call's checks hand on
 
 -- all have passed, and n edges stand
-pub record Passes (vertices longest start destination : ℕ) (pattern edges work : List ℕ) (n : ℕ) : Type 0 where
-  pub is : searchRefusal vertices longest start destination pattern edges work ≡ 0
-  pub layout : LayoutPasses vertices longest edges n
-  pub room : leastWork ≤ length work
-  pub start-vertex : start < vertices
-  pub destination-vertex : destination < vertices
-  pub keyed : Keyed longest pattern
+pub record SearchPasses (h : Header) (start destination : ℕ) (pattern : List ℕ) (m : Memory) (n : ℕ) : Type 0 where
+  pub is : searchRefusal h start destination pattern m ≡ 0
+  pub layout : LayoutPasses (h .vertices) (h .longest) (m .edges) n
+  pub room : leastWork ≤ length (m .work)
+  pub start-vertex : start < h .vertices
+  pub destination-vertex : destination < h .vertices
+  pub keyed : Keyed (h .longest) pattern
 
-abbrev pub Checks : (vertices longest start destination : ℕ) (pattern edges work : List ℕ) → Standing → Type 0
-Checks vertices longest start destination pattern edges work (Refused r) = searchRefusal vertices longest start destination pattern edges work ≡ numberOf r
-Checks vertices longest start destination pattern edges work (Edges n) = Passes vertices longest start destination pattern edges work n
+abbrev pub SearchChecks : Header → (start destination : ℕ) → List ℕ → Memory → Standing → Type 0
+SearchChecks h start destination pattern m (Refused r) = searchRefusal h start destination pattern m ≡ numberOf r
+SearchChecks h start destination pattern m (Edges n) = SearchPasses h start destination pattern m n

@@ -7,7 +7,7 @@ use mathlib.Core.Logic.{_⊎_}
 use Prim.Native.Nat.{ℕ, _+_, _*_, _≤_, _<_}
 use lib.ListN.{length, getD, take}
 use lib.Dec.{eqb}
-use Rattle.model.specs.Limits.{mostVertices, mostLongest, leastWork}
+use Rattle.model.specs.Limits.{mostVertices, mostLongest, labelUnit, leastWork}
 use Rattle.model.specs.Levels.{mostStates, Leads}
 
 abbrev pub one : Bool → ℕ
@@ -58,11 +58,11 @@ pub record Ahead (edges : List ℕ) (i key base y : ℕ) : Type 0 where
   pub j : ℕ
   pub early : j < i
   pub least : key ≤ getD edges j 0
-  pub most : getD edges j 0 < key + 256
+  pub most : getD edges j 0 < key + labelUnit
   pub is : y + key ≡ base + getD edges j 0
 
 -- y is led to from a state that stands in the queue from lo up to hi
-pub record Next (edges l w : List ℕ) (lo hi y : ℕ) : Type 0 where
+pub record LedTo (edges l w : List ℕ) (lo hi y : ℕ) : Type 0 where
   pub k : ℕ
   pub from : lo ≤ k
   pub to : k < hi

@@ -1,24 +1,28 @@
 // The level search (plain check): levels of states, a state being labels used * 256 + vertex, and the call with its checks.
 use checks::Standing;
+use model::FROM_UNIT;
+use model::LABEL_UNIT;
+use model::LEAST_WORK;
+use model::MOST_LONGEST;
+use model::MOST_VERTICES;
 use model::Refusal;
 use model::SearchReply;
 ghost use mathlib.Core.Path.{_≡_};
-ghost use mathlib.Core.List.{List};
+ghost use mathlib.Core.List.{List, []};
 ghost use Prim.Native.Nat.{ℕ, _+_, _*_, _≤_, _<_, _^_};
 ghost use lib.ListN.{length, getD};
 ghost use Rattle.model.specs.Lists.{Rising, zeroed};
-ghost use Rattle.model.specs.Limits.{mostVertices, leastWork};
+ghost use Rattle.model.specs.Limits.{mostVertices, labelUnit, leastWork};
 ghost use Rattle.model.specs.Levels.{mostStates, Leads};
 ghost use Rattle.model.specs.Replies.{replyOf};
-ghost use Rattle.level_search.specs.Work.{Room, Grown, Ahead, Next, Fit, Short};
+ghost use Rattle.level_search.specs.Work.{Room, Grown, Ahead, LedTo, Fit, Short};
 ghost use Rattle.edges.specs.Slots.{Under, Starts};
-ghost use Rattle.calls.specs.Search.{searchCall, SearchMeets};
-ghost use Rattle.level_search.specs.Run.{Searchable, foundBy, Finds, Checks};
+ghost use Rattle.calls.specs.Search.{searchCall};
+ghost use Rattle.calls.specs.Call.{lent, Meets};
+ghost use Rattle.level_search.specs.Run.{Searchable, foundBy, Searches, SearchChecks};
 
 // Work memory: a mark for each state, then the queue of states reached.
-const QUEUE: usize = 1024;
-
-const WORK: usize = 4096;
+const QUEUE: usize = MOST_LONGEST * MOST_VERTICES;
 
 // Marks the state y and queues it, if it is not marked yet.
 fn reach(work: &mut [u64], y: usize, tail: usize) -> usize
@@ -36,10 +40,10 @@ fn reach(work: &mut [u64], y: usize, tail: usize) -> usize
 // Reaches base + to for every edge key + to, to from 0 to 255. No edge before slot `from` is one.
 fn spread(edges: &[u32], from: usize, key: u32, base: usize, work: &mut [u64], tail: usize) -> usize
     requires { ⌜ Rising (now edges) × Under (now edges) key from ⌝ }
-    requires { ⌜ (Room (now work) tail) × ((base + mostVertices ≤ mostStates) × (key + 256 < 2 ^ 32)) ⌝ }
+    requires { ⌜ (Room (now work) tail) × ((base + mostVertices ≤ mostStates) × (key + labelUnit < 2 ^ 32)) ⌝ }
     ensures { λ r. ⌜ Grown (now (work .entry)) tail (now (work .exit)) r (Ahead (now (edges .entry)) (length (now (edges .entry))) key base) ⌝ }
 {
-    let end = key + 256;
+    let end = key + LABEL_UNIT;
     let mut i = edges::skip(edges, from, key);
     let mut n = tail;
     while i < edges.len() {
@@ -66,11 +70,11 @@ fn expand(
     requires { ⌜ Room (now work) tail × (Short (now pattern) × (x < length (now pattern) * mostVertices)) ⌝ }
     ensures { λ r. ⌜ Grown (now (work .entry)) tail (now (work .exit)) r (Leads (now (edges .entry)) (now (pattern .entry)) x) ⌝ }
 {
-    let used = x / 256;
-    let vertex = x % 256;
+    let used = x / MOST_VERTICES;
+    let vertex = x % MOST_VERTICES;
     let label = pattern[used] as u32;
-    let key = vertex as u32 * 4096 + label * 256;
-    let base = (used + 1) % pattern.len() * 256;
+    let key = vertex as u32 * FROM_UNIT + label * LABEL_UNIT;
+    let base = (used + 1) % pattern.len() * MOST_VERTICES;
     spread(edges, slots[vertex], key, base, work, tail)
 }
 
@@ -85,7 +89,7 @@ fn next_level(
 ) -> usize
     requires { ⌜ Rising (now edges) × Starts (now edges) (now slots) ⌝ }
     requires { ⌜ Room (now work) hi × (Short (now pattern) × (Fit (now pattern) (now work) lo hi × (lo ≤ hi))) ⌝ }
-    ensures { λ r. ⌜ Grown (now (work .entry)) hi (now (work .exit)) r (Next (now (edges .entry)) (now (pattern .entry)) (now (work .entry)) lo hi) ⌝ }
+    ensures { λ r. ⌜ Grown (now (work .entry)) hi (now (work .exit)) r (LedTo (now (edges .entry)) (now (pattern .entry)) (now (work .entry)) lo hi) ⌝ }
 {
     let mut n = hi;
     let mut k = lo;
@@ -142,10 +146,10 @@ pub fn run(
     work: &mut [u64],
 ) -> SearchReply
     requires { ⌜ Searchable vertices (now edges) (now pattern) s t × (leastWork ≤ length (now work)) ⌝ }
-    ensures { λ r. ⌜ Finds vertices (now (edges .entry)) (now (pattern .entry)) s t limit (now (work .entry)) r (now (work .exit)) ⌝ }
+    ensures { λ r. ⌜ Searches vertices (now (edges .entry)) (now (pattern .entry)) s t limit (now (work .entry)) r (now (work .exit)) ⌝ }
 {
-    edges::clear_work(&mut work[..WORK]);
-    let reply = levels(vertices, edges, pattern, s, t, limit, &mut work[..WORK]);
+    edges::clear_work(&mut work[..LEAST_WORK]);
+    let reply = levels(vertices, edges, pattern, s, t, limit, &mut work[..LEAST_WORK]);
     edges::clear_work(work);
     reply
 }
@@ -160,13 +164,16 @@ fn check(
     edges: &[u32],
     work: &[u64],
 ) -> Standing
-    ensures { λ r. ⌜ Checks vertices longest start destination (now (pattern .entry)) (now (edges .entry)) (now (work .entry)) r ⌝ }
+    ensures { λ r. ⌜
+        SearchChecks (record { vertices = vertices; longest = longest }) start destination (now (pattern .entry))
+        (lent (now (edges .entry)) [] (now (work .entry))) r
+        ⌝ }
 {
     let layout = checks::check_layout(vertices, longest, edges);
     let Standing::Edges(n) = layout else {
         return layout;
     };
-    if work.len() < WORK {
+    if work.len() < LEAST_WORK {
         return Standing::Refused(Refusal::WorkMemory);
     }
     if checks::are_vertices(vertices, start, destination) {
@@ -189,7 +196,10 @@ pub fn search(
     edges: &[u32],
     work: &mut [u64],
 ) -> SearchReply
-    ensures { λ r. ⌜ SearchMeets (searchCall vertices longest start destination (now (pattern .entry)) «level_limit» (now (edges .entry)) (now (work .entry))) r (now (work .exit)) ⌝ }
+    ensures { λ r. ⌜
+        Meets (searchCall (record { vertices = vertices; longest = longest }) start destination (now (pattern .entry)) «level_limit»
+        (lent (now (edges .entry)) [] (now (work .entry)))) (replyOf r) (lent (now (edges .entry)) [] (now (work .exit)))
+        ⌝ }
 {
     let checked = check(vertices, longest, start, destination, pattern, edges, work);
     match checked {

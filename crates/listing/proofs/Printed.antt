@@ -6,33 +6,32 @@ use native.Mathlib.Omega.{arith}
 use lib.ListN.{length, take, drop, length-append}
 use borrow.Author.Tests.{ne-eqb}
 use Rattle.model.specs.Edges.{standing}
-use Rattle.model.specs.Replies.{answerOf, numberOf}
+use Rattle.model.specs.Replies.{numberOf}
 use Rattle.model.specs.declared.Refusal.{Refusal}
 use Rattle.model.specs.declared.Answer.the-variants.{Accepted, Refused}
 use Rattle.model.proofs.Replies.{number-some}
-use Rattle.calls.specs.Change.{Change}
+use Rattle.calls.specs.Call.{lent, Outcome, Meets}
+use Rattle.calls.specs.Change.{Returned}
 use Rattle.calls.specs.Card.{readCall}
 use Rattle.store.specs.declared.Changed.{Changed}
-use Rattle.store.specs.Store.{Meets}
+use Rattle.store.specs.Store.{returned}
 use Rattle.printing.specs.Lines.{listing, refusedLine}
 use Rattle.printing.specs.Puts.{Puts}
 use Rattle.listing.specs.Listing.{blank, text, printed}
 use Rattle.listing.proofs.Standing.{standing-front}
 
-module _ {c : Change} {r : Changed} {edges index work : List ℕ} (m : Meets c r edges index work) where
+module _ {c : Outcome Returned} {r : Changed} {edges index work : List ℕ} (m : Meets c (returned r) (lent edges index work)) where
   text-listing : r .answer ≡ Accepted
       → text c ≡ listing (r .header .vertices) (r .header .longest) (length (standing edges)) (standing index)
   text-listing e =
-      let a : c .answer ≡ 0 = sym (m .leaves .answer) ∙ ap answerOf e in
-      rw (a, ← m .header, m .leaves .edges-after, m .leaves .index-after) refl
+      rw (sym (m .reply-is), e, sym (m .edges-after), sym (m .index-after)) refl
 
   text-refused : {refusal : Refusal} → r .answer ≡ Refused refusal → text c ≡ refusedLine (numberOf refusal)
   text-refused {refusal} e =
-      let a : c .answer ≡ numberOf refusal = sym (m .leaves .answer) ∙ ap answerOf e in
-      rw (a, ne-eqb (numberOf refusal) 0 (λ z. omega (arith, number-some refusal))) refl
+      rw (sym (m .reply-is), e, ne-eqb (numberOf refusal) 0 (λ z. omega (arith, number-some refusal))) refl
 
 -- the lines put for an accepted card, and for a refused one
-module _ (card : List ℕ) {r : Changed} {edges index work out out′ : List ℕ} {end : ℕ} (m : Meets (readCall card blank) r edges index work) where
+module _ (card : List ℕ) {r : Changed} {edges index work out out′ : List ℕ} {end : ℕ} (m : Meets (readCall card blank) (returned r) (lent edges index work)) where
   pub puts-listing : {a n : ℕ} → r .answer ≡ Accepted → a ≡ length (standing edges) → n ≡ length (standing index)
       → Puts out 0 (listing (r .header .vertices) (r .header .longest) a (take n index)) out′ end → Puts out 0 (printed card) out′ end
   unfolding printed

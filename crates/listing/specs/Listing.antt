@@ -4,22 +4,26 @@ use mathlib.Core.List.{List}
 use Prim.Native.Nat.{ℕ, _+_}
 use lib.Dec.{eqb}
 use lib.ListN.{length, replicate}
-use Rattle.model.specs.Limits.{leastWork}
+use Rattle.model.specs.Limits.{mostEdges, leastWork}
 use Rattle.model.specs.Edges.{standing}
-use Rattle.calls.specs.Change.{Memory, Change, numbersOf}
+use Rattle.calls.specs.Call.{Memory, lent, Outcome}
+use Rattle.calls.specs.Change.{Returned}
 use Rattle.calls.specs.Card.{readCall}
 use Rattle.printing.specs.Lines.{listing, refusedLine}
 
 -- "leg memory 1,024 slots, index memory 1,024 slots"
+abbrev pub listedSlots : ℕ
+listedSlots = 1024
+
 abbrev pub blank : Memory
-blank = record { edges = replicate 1024 0; index = replicate 1024 0; work = replicate (leastWork + 1024) 0 }
+blank = lent (replicate mostEdges 0) (replicate listedSlots 0) (replicate (leastWork + listedSlots) 0)
 
 -- the whole output after a card reading: header and entries in slot order, or "`refused` and its number"
-abbrev pub text : Change → List ℕ
+abbrev pub text : Outcome Returned → List ℕ
 text c =
-    cond (eqb (c .answer) 0)
-    (listing (numbersOf (c .handed) .vertices) (numbersOf (c .handed) .longest) (length (standing (c .memory .edges))) (standing (c .memory .index)))
-    (refusedLine (c .answer))
+    cond (eqb (c .reply .answer) 0)
+    (listing (c .reply .header .vertices) (c .reply .header .longest) (length (standing (c .memory .edges))) (standing (c .memory .index)))
+    (refusedLine (c .reply .answer))
 
 unfoldable pub printed : List ℕ → List ℕ
 printed card = text (readCall card blank)

@@ -1,5 +1,7 @@
 // The listing program: takes the first 4,096 bytes of standard input as a card, and prints the layout's index, or the refusal.
 use model::Answer;
+use model::LEAST_WORK;
+use model::MOST_EDGES;
 ghost use mathlib.Core.Path.{_≡_};
 ghost use Prim.Native.Nat.{_≤_};
 ghost use lib.ListN.{length};
@@ -7,8 +9,11 @@ ghost use Rattle.model.specs.Edges.{standing};
 ghost use Rattle.printing.specs.Puts.{Puts};
 ghost use Rattle.listing.specs.Listing.{printed};
 
-// A header line and 1,024 entry lines.
-const ROOM: usize = 32840;
+// "index memory 1,024 slots"
+const SLOTS: usize = 1024;
+
+// A header line and a line for each slot.
+const ROOM: usize = 72 + 32 * SLOTS;
 
 // How many slots stand before the first zero.
 fn standing_edges(edges: &[u32]) -> usize
@@ -42,9 +47,9 @@ fn list(card: &[u8], out: &mut [u8]) -> usize
     requires { ⌜ 32840 ≤ length (now out) ⌝ }
     ensures { λ r. ⌜ Puts (now (out .entry)) 0 (printed (now (card .entry))) (now (out .exit)) r ⌝ }
 {
-    let mut edges = [0u32; 1024];
-    let mut index = [0u64; 1024];
-    let mut work = [0u64; 5120];
+    let mut edges = [0u32; MOST_EDGES];
+    let mut index = [0u64; SLOTS];
+    let mut work = [0u64; LEAST_WORK + SLOTS];
     let changed = store::read_card(card, &mut edges, &mut index, &mut work);
     let answer = changed.answer;
     let header = changed.header;

@@ -1,18 +1,18 @@
 -- The entries of one pattern by their hubs: when the earliest stop is an end of the pair, for any order; and over vertices in their own order.
-use mathlib.Core.Path.{_≡_, refl, sym, ap, _∙_}
+use mathlib.Core.Path.{_≡_, sym}
 use mathlib.Core.Logic.{_⊎_, inl, inr, ⊎-elim, _↔_, _≢_}
-use mathlib.Core.List.{List, [], _∷_}
+use mathlib.Core.List.{List}
 use Prim.Native.Nat.{ℕ, zero, suc, _+_, _≤_, _<_}
 use native.Mathlib.Nat.{le-refl, not-suc-le-zero, eq-or-lt-of-le}
 use native.Mathlib.Decide.{decLt}
 use native.Mathlib.Omega.{arith}
 use lib.ListN.{length}
-use Rattle.model.specs.Lists.{_∈_, upTo, from, Sorted}
+use Rattle.model.specs.Lists.{upTo, from}
 use Rattle.model.specs.Edges.{Graph}
 use Rattle.model.specs.Patterns.{Pattern, code}
-use Rattle.model.specs.Walks.{Edge, Spells, here, edge, Runs, once, more, Stop, Between}
+use Rattle.model.specs.Walks.{Spells, here, edge, Runs, once, more, Stop, Between}
 use Rattle.model.specs.Order.{rank}
-use Rattle.model.specs.Entries.{Earliest, outEntry, inEntry, Asked, IsEntry}
+use Rattle.model.specs.Entries.{Earliest, outEntry, inEntry, IsEntry}
 use Rattle.model.specs.Hubs.{Picked, EntryBy}
 use Rattle.model.proofs.Walks.{stop-iff, stop-start, stop-end, runs-to}
 use Rattle.model.proofs.Order.{rank-here, rank-there}

@@ -2,18 +2,18 @@
 use mathlib.Core.Path.{_≡_, refl, sym, _∙_}
 use mathlib.Core.Logic.{_⊎_, inl, inr, ⊎-elim, _↔_}
 use mathlib.Core.Bool.{Bool, not}
-use mathlib.Core.List.{List, [], _∷_, List·Memᴰ·head, List·Memᴰ·eq-of-singleton, cons≢nil, head-eq-of-cons-eq, tail-eq-of-cons-eq}
-use Prim.Native.Nat.{ℕ, zero, suc, _+_, _*_, _/_, _%_, _≤_, _<_}
+use mathlib.Core.List.{List, _∷_, List·Memᴰ·head, List·Memᴰ·eq-of-singleton, cons≢nil, head-eq-of-cons-eq, tail-eq-of-cons-eq}
+use Prim.Native.Nat.{ℕ, zero, suc, _+_, _*_, _%_, _≤_, _<_}
 use native.Mathlib.Nat.{eq-or-lt-of-le, le-of-suc-le-suc, mod-eq-of-lt, mod-self, mod-lt}
 use native.Mathlib.Omega.{arith}
-use lib.Dec.{T, ltb}
+use lib.Dec.{ltb}
 use lib.ListN.{length, getD, take, drop}
 use lib.Seq.{take-suc, drop-cons, take-length, drop-length}
-use Rattle.model.specs.Lists.{_∈_, keep, upTo, any?, mem?}
+use Rattle.model.specs.Lists.{_∈_, upTo}
 use Rattle.model.specs.Limits.{mostVertices}
 use Rattle.model.specs.Edges.{Graph, edgeNumber}
 use Rattle.model.specs.Walks.{Spells, here, edge, Runs, once, more}
-use Rattle.model.specs.Levels.{state, vertexOf, usedOf, states, leads?, led?, Leads, Stage, grow, stage, level}
+use Rattle.model.specs.Levels.{state, vertexOf, usedOf, states, leads?, led?, Leads, grow, stage, level, IsState, Fresh, Reached}
 use Rattle.model.proofs.Tests.{Tests, test-and, test-not, test-eq, test-lt, test-mem, test-any, test-T, test-dec}
 use Rattle.model.proofs.Lists.{keep-in, keep-out, up-to, below, length-keep, length-from}
 use Rattle.model.proofs.Walks.{join, still, runs-trans}
@@ -29,11 +29,6 @@ module _ (v i : ℕ) (h : v < mostVertices) where
 -- (s, 0) is s itself
 pub state-zero : (v : ℕ) → state v 0 ≡ v
 state-zero v = omega arith
-
--- x is a state of the graph
-pub record IsState (g : Graph) (l : List ℕ) (x : ℕ) : Type 0 where
-  pub bound : x < length l * mostVertices
-  pub vertex : vertexOf x < g .vertices
 
 pub state-is : (g : Graph) (l : List ℕ) (v i : ℕ) → g .vertices ≤ mostVertices → v < g .vertices → i < length l → IsState g l (state v i)
 state-is g l v i small h k = record { bound = omega arith; vertex = rw (vertex-state v i (omega arith)) h }
@@ -61,11 +56,7 @@ module _ (g : Graph) (l : List ℕ) where
   test-led last z = test-any (λ x. test-leads x z) last
 
   module _ (s : ℕ) where
-    -- z is in none of levels 1 to i
-    abbrev pub Fresh : ℕ → ℕ → Type 0
-    Fresh i z = (j : ℕ) → 1 ≤ j → j ≤ i → ¬ (z ∈ level g l s j)
-
-    fresh-iff : (i z : ℕ) → (z ∈ stage g l s i .fresh) ↔ (IsState g l z × Fresh i z)
+    fresh-iff : (i z : ℕ) → (z ∈ stage g l s i .fresh) ↔ (IsState g l z × Fresh g l s i z)
     unfolding stage grow
     fresh-iff zero z = (λ m. (states-iff z .0 m, λ j h k. absurd (omega arith)), λ h. states-iff z .1 (h .0))
     fresh-iff (suc i) z = (
@@ -93,12 +84,7 @@ module _ (g : Graph) (l : List ℕ) where
     level-zero z = (λ m. List·Memᴰ·eq-of-singleton m ∙ state-zero s, λ e. List·Memᴰ·head (e ∙ sym (state-zero s)))
 
     -- what level i + 1 has
-    pub record Reached (i z : ℕ) : Type 0 where
-      pub is-state : IsState g l z
-      pub fresh : Fresh i z
-      pub source : (x : ℕ) × (x ∈ level g l s i) × Leads (g .edges) l x z
-
-    pub level-iff : (i z : ℕ) → (z ∈ level g l s (suc i)) ↔ Reached i z
+    pub level-iff : (i z : ℕ) → (z ∈ level g l s (suc i)) ↔ Reached g l s i z
     unfolding stage grow
     level-iff i z = (
       λ m.
@@ -129,12 +115,12 @@ module _ (g : Graph) (l : List ℕ) where
       pub stands : z ∈ level g l s at
 
     -- it does or it does not
-    pub look : (i z : ℕ) → Fresh i z ⊎ Met i z
+    pub look : (i z : ℕ) → Fresh g l s i z ⊎ Met i z
     look zero z = inl (λ j h k. absurd (omega arith))
     look (suc i) z = ⊎-elim (λ f. now f (test-dec (test-mem z (level g l s (suc i)))))
         (λ m. inr (record { at = m .at; first = m .first; last = omega (arith, m .last); stands = m .stands })) (look i z)
       where
-        now : Fresh i z → Dec (z ∈ level g l s (suc i)) → Fresh (suc i) z ⊎ Met (suc i) z
+        now : Fresh g l s i z → Dec (z ∈ level g l s (suc i)) → Fresh g l s (suc i) z ⊎ Met (suc i) z
         now f (yes m) = inr (record { at = suc i; first = omega arith; last = omega arith; stands = m })
         now f (no n) = inl (λ j h k. ⊎-elim (λ e. rw e n) (λ q. f j h (le-of-suc-le-suc q)) (eq-or-lt-of-le k))
 

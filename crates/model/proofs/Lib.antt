@@ -10,6 +10,7 @@ pub mod Index
 pub mod Entries
 pub mod Query
 pub mod Edges
+pub mod Insertion
 pub mod Replies
 pub mod Ranks
 pub mod Hubs
@@ -20,3 +21,5 @@ pub mod Memory
 pub mod Zeros
 pub mod Checked
 pub mod IndexMemory
+pub mod Codes
+pub mod Memories

@@ -1,21 +1,21 @@
 -- Vertices numbered anew by their rank: the entries of the graph with an order are those of the renumbered graph in its own order, with
 -- owner and hub put back.
 use mathlib.Core.Path.{_≡_, refl, sym, ap, ap₂, _∙_}
-use mathlib.Core.Logic.{_⊎_, inl, inr, _≢_}
+use mathlib.Core.Logic.{inl, inr}
 use mathlib.Core.List.{List, List·Memᴰ·head, List·Memᴰ·tail}
-use Prim.Native.Nat.{ℕ, _+_, _*_, _/_, _%_, _≤_, _<_}
+use Prim.Native.Nat.{ℕ, _≤_, _<_}
 use native.Mathlib.Omega.{arith}
 use lib.ListN.{getD}
 use Rattle.model.specs.Lists.{_∈_, upTo}
-use Rattle.model.specs.Limits.{hubUnit, ownerUnit, sideUnit, mostVertices, mostLabel}
+use Rattle.model.specs.Limits.{mostVertices, mostLabel, hubUnit}
 use Rattle.model.specs.Edges.{Graph, Small}
 use Rattle.model.specs.Patterns.{Keyed, code}
 use Rattle.model.specs.Walks.{Spells, here, edge, Runs, once, more, Stop, Between}
 use Rattle.model.specs.Order.{rank, Names}
-use Rattle.model.specs.Entries.{Earliest, entryOf, outEntry, inEntry, Asked, IsEntry}
+use Rattle.model.specs.Entries.{Earliest, entryOf, outEntry, inEntry, IsEntry}
 use Rattle.model.specs.Query.{sideOf, ownerOf, hubOf, codeOf}
 use Rattle.model.specs.Renumber.{Renumbers, translate}
-use Rattle.model.proofs.Walks.{stop-iff, stop-to, runs-to}
+use Rattle.model.proofs.Walks.{stop-iff, stop-to}
 use Rattle.model.proofs.Patterns.{code-below}
 use Rattle.model.proofs.Ranks.{rank-at, rank-small, vertex-small, at-rank}
 use Rattle.model.proofs.Hubs.{rank-own}

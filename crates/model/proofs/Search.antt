@@ -1,6 +1,6 @@
 -- Laws of the level search's reply: it is document 01's, it goes on from level to level, and yes and no are right about walks.
 use mathlib.Core.Path.{_≡_, refl, ap, subst}
-use mathlib.Core.Logic.{⊎-elim, _≢_}
+use mathlib.Core.Logic.{⊎-elim}
 use mathlib.Core.Bool.{Bool, true, false}
 use mathlib.Core.List.{List, [], _∷_, List·Memᴰ·not-nil, List·Memᴰ·head}
 use Prim.Native.Nat.{ℕ, zero, suc, _+_, _*_, _≤_, _<_}
@@ -9,10 +9,10 @@ use native.Mathlib.Omega.{arith}
 use lib.Dec.{T}
 use lib.ListN.{length}
 use Rattle.model.specs.Lists.{_∈_, mem?, empty?}
-use Rattle.model.specs.Limits.{mostVertices, mostLongest}
+use Rattle.model.specs.Limits.{mostVertices, mostLongest, enoughLevels}
 use Rattle.model.specs.Edges.{Graph}
 use Rattle.model.specs.Walks.{Runs}
-use Rattle.model.specs.Levels.{state, states, leads?, led?, Stage, grow, stage, level, Reply, Yes, No, Spent, replyAt, replyFrom, levelReply, Quiet, Told, found, ended, stopped, isYes?, runs?}
+use Rattle.model.specs.Levels.{state, states, leads?, led?, Stage, grow, stage, level, Reply, Yes, No, Spent, replyAt, replyFrom, levelReply, Quiet, Told, found, ended, stopped, Decides, isYes?, runs?}
 use Rattle.model.proofs.Tests.{Tests, test-true, test-false, test-dec, test-T, test-mem}
 use Rattle.model.proofs.Levels.{state-zero, level-runs, level-all, level-size, fresh-size}
 
@@ -95,9 +95,14 @@ module _ (g : Graph) (l : List ℕ) (s t : ℕ) where
         let m = level-all g l small full s c t (empty-out (level g l s (suc c)) e) r in
         q (m .at) (m .first) (m .last) .0 (rw (state-zero t) (m .stands))
 
-  -- "An allowance of 1,025 always gives yes or no."
-  pub never-spent : length l ≤ mostLongest → (c : ℕ) → levelReply g l s t 1025 ≢ Spent c
-  never-spent k c e = omega (arith, told-spent (rw e at (told 1025)))
+    -- "An allowance of 1,025 always gives yes or no": yes where a walk runs l, and there alone
+    pub decides : (limit : ℕ) → enoughLevels ≤ limit → length l ≤ mostLongest → Decides g l s t (levelReply g l s t limit)
+    decides limit enough short = go (levelReply g l s t limit) (told limit)
+      where
+        go : (r : Reply) → Told g l s t limit r → Decides g l s t r
+        go (Yes c) h = Decides.runs c (told-yes h)
+        go (No c) h = Decides.runs-not c (told-no h)
+        go (Spent c) h = absurd (omega (arith, told-spent h))
 
 module _ (g : Graph) (l : List ℕ) (small : g .vertices ≤ mostVertices) (full : 1 ≤ length l) (s t : ℕ) (hs : s < g .vertices) (ht : t < g .vertices) where
   pub test-runs : Tests (runs? g l s t) (Runs g l s t)

@@ -1,7 +1,8 @@
 -- What the station holds (document 01): the layout as a graph, the numbers of its edges, and edge memory.
+use mathlib.Core.Path.{_≡_}
 use mathlib.Core.Bool.{Bool, true, _&&_, cond}
 use mathlib.Core.List.{List, [], _∷_}
-use Prim.Native.Nat.{ℕ, _+_, _*_, _/_, _%_, _≤_}
+use Prim.Native.Nat.{ℕ, _+_, _*_, _/_, _%_, _≤_, _<_}
 use lib.Dec.{eqb, ltb, leb}
 use lib.ListN.{length}
 use Rattle.model.specs.Lists.{within?}
@@ -17,14 +18,14 @@ pub record Graph : Type 0 where
 abbrev pub bare : ℕ → List ℕ → Graph
 bare vertices edges = record { vertices = vertices; longest = 0; edges = edges }
 
--- what checks 1 and 2 let pass: "places 1 to 256", "k 1 to 4"
+-- what checks 1 and 2 leave: "places not 1 to 256", "k not 1 to 4"
 pub record Bounds (vertices longest : ℕ) : Type 0 where
   pub vertices-least : 1 ≤ vertices
   pub vertices-most : vertices ≤ mostVertices
   pub longest-least : 1 ≤ longest
   pub longest-most : longest ≤ mostLongest
 
--- what they leave of a graph
+-- the part of it that most laws need
 pub record Small (g : Graph) : Type 0 where
   pub vertices-small : g .vertices ≤ mostVertices
   pub longest-small : g .longest ≤ mostLongest
@@ -49,6 +50,15 @@ label? c = within? 1 mostLabel c
 -- x is the number of an edge of a graph with that many vertices. Both ends are below them, so at most 256 vertices leave one reading
 unfoldable pub edge? : ℕ → ℕ → Bool
 edge? vertices x = ltb (fromOf x) vertices && (label? (labelOf x) && ltb (toOf x) vertices)
+
+-- the same as a statement
+pub record OfEdge (vertices x : ℕ) : Type 0 where
+  pub from : ℕ
+  pub label : ℕ
+  pub to : ℕ
+  pub ends : (from < vertices) × (to < vertices)
+  pub labelled : (1 ≤ label) × (label ≤ mostLabel)
+  pub is : x ≡ edgeNumber from label to
 
 -- every slot is zero
 unfoldable pub zeros? : List ℕ → Bool

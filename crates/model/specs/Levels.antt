@@ -8,6 +8,7 @@ use lib.ListN.{length, getD}
 use Rattle.model.specs.Lists.{_∈_, keep, upTo, any?, mem?, empty?}
 use Rattle.model.specs.Limits.{mostVertices, mostLongest}
 use Rattle.model.specs.Edges.{Graph, edgeNumber}
+use Rattle.model.specs.Walks.{Runs}
 
 -- a pair (place, colours of L used so far) as one number: used × 256 + vertex. (s, 0) is s itself
 abbrev pub state : ℕ → ℕ → ℕ
@@ -63,6 +64,21 @@ stage g l s (suc i) = grow g l (stage g l s i)
 abbrev pub level : Graph → List ℕ → ℕ → ℕ → List ℕ
 level g l s i = stage g l s i .level
 
+-- the same as statements. x is a state of the graph: a vertex of it, and fewer labels used than the pattern has
+pub record IsState (g : Graph) (l : List ℕ) (x : ℕ) : Type 0 where
+  pub bound : x < length l * mostVertices
+  pub vertex : vertexOf x < g .vertices
+
+-- z is in none of levels 1 to i
+abbrev pub Fresh : Graph → List ℕ → ℕ → ℕ → ℕ → Type 0
+Fresh g l s i z = (j : ℕ) → 1 ≤ j → j ≤ i → ¬ (z ∈ level g l s j)
+
+-- z is in level i + 1
+pub record Reached (g : Graph) (l : List ℕ) (s i z : ℕ) : Type 0 where
+  pub is-state : IsState g l z
+  pub fresh : Fresh g l s i z
+  pub source : (x : ℕ) × (x ∈ level g l s i) × Leads (g .edges) l x z
+
 -- the replies of document 01: yes c, no c, spent c, each with its number of levels, and refused with a number
 pub data Reply : Type 0 where
   Yes No Spent Refused : ℕ → Reply
@@ -95,6 +111,11 @@ pub data Told (g : Graph) (l : List ℕ) (s t limit : ℕ) : Reply → Type 0 wh
   found : (c : ℕ) → c < limit → Quiet g l s t c → state t 0 ∈ level g l s (suc c) → Told g l s t limit (Yes (suc c))
   ended : (c : ℕ) → c < limit → Quiet g l s t c → T (empty? (level g l s (suc c))) → Told g l s t limit (No (suc c))
   stopped : Quiet g l s t limit → Told g l s t limit (Spent limit)
+
+-- the reply is yes and a walk from s to t runs l, or it is no and none does
+pub data Decides (g : Graph) (l : List ℕ) (s t : ℕ) : Reply → Type 0 where
+  runs : (c : ℕ) → Runs g l s t → Decides g l s t (Yes c)
+  runs-not : (c : ℕ) → ¬ Runs g l s t → Decides g l s t (No c)
 
 abbrev pub isYes? : Reply → Bool
 isYes? (Yes c) = true

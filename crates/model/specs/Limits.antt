@@ -1,5 +1,5 @@
 -- The numbers that document 01 fixes, each named once.
-use Prim.Native.Nat.{ℕ, _^_}
+use Prim.Native.Nat.{ℕ, suc, _*_, _^_}
 
 -- places are 1 to 256, legs at most 1,024, colours 1 to 8, the longest pattern k 1 to 4
 abbrev pub mostVertices : ℕ
@@ -29,7 +29,10 @@ digitUnit = 16
 abbrev pub leastWork : ℕ
 leastWork = 4096
 
--- what the fields of an index entry are multiplied by; codes lie below the least
+-- what the fields of an index entry are multiplied by; codes lie below the least, so they have at most four hexadecimal digits
+abbrev pub codeDigits : ℕ
+codeDigits = 4
+
 abbrev pub hubUnit : ℕ
 hubUnit = 2 ^ 16
 
@@ -38,6 +41,10 @@ ownerUnit = 2 ^ 24
 
 abbrev pub sideUnit : ℕ
 sideUnit = 2 ^ 32
+
+-- "An allowance of 1,025 always gives yes or no": one level more than there are states
+abbrev pub enoughLevels : ℕ
+enoughLevels = suc (mostLongest * mostVertices)
 
 -- a card's bytes before its edges, and those of an edge behind them
 abbrev pub headBytes : ℕ

@@ -1,8 +1,9 @@
 -- Lists as the definitions use them: membership, tests, what passes a test, ranges, rising order, where a key belongs, and zeros behind.
-use mathlib.Core.Bool.{Bool, true, false, _&&_, _||_}
+use mathlib.Core.Path.{_≡_}
+use mathlib.Core.Bool.{Bool, true, false, _&&_, _||_, cond}
 use mathlib.Core.List.{List, [], _∷_, _++_, List·Memᴰ}
 use Prim.Native.Nat.{ℕ, zero, suc, _-_, _≤_, _<_}
-use lib.Dec.{eqb, leb}
+use lib.Dec.{eqb, ltb, leb}
 use lib.ListN.{length, getD, replicate}
 
 infix 50 _∈_
@@ -68,6 +69,11 @@ pub data Sorted {A : Type 0} (R : A → A → Type 0) : List A → Type 0 where
 abbrev pub Rising : List ℕ → Type 0
 Rising l = Sorted _<_ l
 
+-- the first slot whose number is not below key
+unfoldable pub lowerBound : ℕ → List ℕ → ℕ
+lowerBound key [] = 0
+lowerBound key (x ∷ xs) = let more = suc (lowerBound key xs) in cond (ltb x key) more 0
+
 -- the numbers before slot lo are below key, and those from slot hi on are not
 pub record Bracket (xs : List ℕ) (key lo hi : ℕ) : Type 0 where
   pub met : lo ≤ hi
@@ -78,6 +84,17 @@ pub record Bracket (xs : List ℕ) (key lo hi : ℕ) : Type 0 where
 -- "then zeros": those numbers, and zeros behind them, m slots in all
 abbrev pub filled : ℕ → List ℕ → List ℕ
 filled m l = l ++ replicate (m - length l) 0
+
+-- memory that holds rising numbers of P, and zeros in its other slots
+pub record Padded (P : ℕ → Type 0) (memory : List ℕ) : Type 0 where
+  pub numbers : List ℕ
+  pub rises : Rising numbers
+  pub each : (x : ℕ) → x ∈ numbers → P x
+  pub zeros : memory ≡ filled (length memory) numbers
+
+-- bytes: numbers below 256
+abbrev pub Bytes : List ℕ → Type 0
+Bytes l = (x : ℕ) → x ∈ l → x < 256
 
 -- a memory of the same length that is all zero
 abbrev pub zeroed : List ℕ → List ℕ

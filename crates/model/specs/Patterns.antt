@@ -39,6 +39,11 @@ minRepeat l = repeatFrom (length l) 1 l
 unfoldable pub foldedLength : List ℕ → ℕ
 foldedLength l = cond (keyed? mostLongest l) (length (minRepeat l)) 0
 
+-- what the folding of a pattern promises: that length, and the minimum repeat is the pattern's first labels, so many of them
+pub record Folds (pattern : List ℕ) (size : ℕ) : Type 0 where
+  pub is : size ≡ foldedLength pattern
+  pub labels : Keyed mostLongest pattern → take size pattern ≡ minRepeat pattern
+
 -- the patterns that an index with longest pattern k has entries for: "every L of at most k colours that is its own minimum repeat"
 pub record Pattern (k : ℕ) (l : List ℕ) : Type 0 where
   pub keyed : Keyed k l

@@ -1,13 +1,14 @@
 -- Index memory (check 12) and the question (query) of document 01, put to index memory of any content.
+use mathlib.Core.Path.{_≡_}
 use mathlib.Core.Bool.{Bool, _&&_, _||_, cond}
 use mathlib.Core.List.{List, [], _∷_, _++_}
 use Prim.Native.Nat.{ℕ, zero, suc, _/_, _%_, _<_}
 use lib.Dec.{eqb, ltb}
 use Rattle.model.specs.Lists.{_∈_, any?, mem?, upTo}
-use Rattle.model.specs.Limits.{mostVertices, mostLongest, digitUnit, hubUnit, ownerUnit, sideUnit}
+use Rattle.model.specs.Limits.{mostVertices, codeDigits, digitUnit, hubUnit, ownerUnit, sideUnit}
 use Rattle.model.specs.Edges.{rising?}
-use Rattle.model.specs.Patterns.{keyed?, own?}
-use Rattle.model.specs.Entries.{outEntry, inEntry}
+use Rattle.model.specs.Patterns.{Pattern, keyed?, own?, code}
+use Rattle.model.specs.Entries.{entryOf, outEntry, inEntry}
 
 -- the fields of an entry number
 abbrev pub sideOf : ℕ → ℕ
@@ -29,11 +30,28 @@ digits (suc n) code = let more = digits n (code / digitUnit) ++ (code % digitUni
 
 -- "code not a pattern of at most k that is its own minimum repeat": what is let pass
 unfoldable pub code? : ℕ → ℕ → Bool
-code? longest code = let l = digits mostLongest code in keyed? longest l && own? l
+code? longest code = let l = digits codeDigits code in keyed? longest l && own? l
+
+-- the same as a statement: the code of a pattern that an index with longest pattern k has
+pub record Coded (k number : ℕ) : Type 0 where
+  pub pattern : List ℕ
+  pub is : Pattern k pattern
+  pub coded : code pattern ≡ number
 
 -- x is the number of an entry: side 0 or 1, owner and hub vertices of this graph, and such a code
 unfoldable pub entry? : ℕ → ℕ → ℕ → Bool
 entry? vertices longest x = ltb (sideOf x) 2 && (ltb (ownerOf x) vertices && (ltb (hubOf x) vertices && code? longest (codeOf x)))
+
+-- the same as a statement
+pub record OfEntry (vertices longest x : ℕ) : Type 0 where
+  pub side : ℕ
+  pub owner : ℕ
+  pub hub : ℕ
+  pub number : ℕ
+  pub sides : side < 2
+  pub ends : (owner < vertices) × (hub < vertices)
+  pub coded : Coded longest number
+  pub is : x ≡ entryOf side owner hub number
 
 -- entries that rise from above prev, then zeros
 unfoldable pub risingEntries? : ℕ → ℕ → ℕ → List ℕ → Bool

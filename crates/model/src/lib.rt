@@ -20,7 +20,9 @@ pub const LABEL_UNIT: u32 = 256;
 // "Code reads the colours as hexadecimal digits"
 pub const DIGIT_UNIT: u64 = 16;
 
-// "side × 2^32 + owner × 2^24 + hub × 2^16 + code"
+// "side × 2^32 + owner × 2^24 + hub × 2^16 + code": a code has at most four digits.
+pub const CODE_DIGITS: usize = 4;
+
 pub const SIDE_UNIT: u64 = 1 << 32;
 
 pub const OWNER_UNIT: u64 = 1 << 24;

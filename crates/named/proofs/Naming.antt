@@ -17,9 +17,10 @@ use Rattle.edges.specs.declared.Scanned.the-variants.{Edges}
 use Rattle.edges.specs.declared.Found.the-variants.{At, Before}
 use Rattle.edges.proofs.Memory.{Scans, scans, Stands, stands, Lacks, lacks}
 use Rattle.calls.specs.Checks.{Check}
-use Rattle.calls.specs.Change.{Header, Memory, changeChecks, changeRefusal, insertRefusal, removeRefusal}
+use Rattle.calls.specs.Call.{Header, Memory}
+use Rattle.calls.specs.Change.{changeChecks, changeRefusal, insertRefusal, removeRefusal}
 use Rattle.calls.proofs.Checks.{none, pass, stop, first-is, Passed, also, passes}
-use Rattle.calls.proofs.Change.{stop-first, pass-first, Good, change-good}
+use Rattle.calls.proofs.Change.{stop-first, pass-first, ChangeGood, change-good}
 use Rattle.named.specs.Named.{Passes, Finds, Places, Takes}
 
 -- edge memory that passes check 3, as the scan finds it
@@ -39,7 +40,7 @@ module _ (h : Header) (from label to : ℕ) (m : Memory) where
 
 module _ {h : Header} {from label to : ℕ} {m : Memory} where
   module _ {n : ℕ} (p : Passes h from label to m n) where
-    pub good : Good h from label to m
+    pub good : ChangeGood h from label to m
     good = change-good h from label to m (p .is)
 
     pub memory : Scans (h .vertices) (m .edges) n

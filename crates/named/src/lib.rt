@@ -3,6 +3,7 @@
 use checks::Standing;
 use edges::Found;
 use model::Refusal;
+ghost use Rattle.calls.specs.Call.{lent};
 ghost use Rattle.named.specs.Named.{Changes, LooksUp, Inserts, Removes};
 
 // How many edges stand and the slot at which the named one stands, or before which it belongs; or the refusal.
@@ -31,7 +32,7 @@ fn check_change(
 ) -> Standing
     ensures { λ r. ⌜
         Changes (record { vertices = vertices; longest = longest }) from label to
-        (record { edges = now (edges .entry); index = now (index .entry); work = now (work .entry) }) r
+        (lent (now (edges .entry)) (now (index .entry)) (now (work .entry))) r
         ⌝ }
 {
     let layout = checks::check_layout(vertices, longest, edges);
@@ -63,7 +64,7 @@ fn look_up(
 ) -> Lookup
     ensures { λ r. ⌜
         LooksUp (record { vertices = vertices; longest = longest }) from label to
-        (record { edges = now (edges .entry); index = now (index .entry); work = now (work .entry) }) r
+        (lent (now (edges .entry)) (now (index .entry)) (now (work .entry))) r
         ⌝ }
 {
     let standing = check_change(vertices, longest, from, label, to, edges, index, work);
@@ -92,7 +93,7 @@ pub fn check_insert(
 ) -> Slot
     ensures { λ r. ⌜
         Inserts (record { vertices = vertices; longest = longest }) from label to
-        (record { edges = now (edges .entry); index = now (index .entry); work = now (work .entry) }) r
+        (lent (now (edges .entry)) (now (index .entry)) (now (work .entry))) r
         ⌝ }
 {
     let lookup = look_up(vertices, longest, from, label, to, edges, index, work);
@@ -121,7 +122,7 @@ pub fn check_remove(
 ) -> Slot
     ensures { λ r. ⌜
         Removes (record { vertices = vertices; longest = longest }) from label to
-        (record { edges = now (edges .entry); index = now (index .entry); work = now (work .entry) }) r
+        (lent (now (edges .entry)) (now (index .entry)) (now (work .entry))) r
         ⌝ }
 {
     let lookup = look_up(vertices, longest, from, label, to, edges, index, work);

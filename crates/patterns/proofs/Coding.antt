@@ -5,10 +5,11 @@ use Prim.Native.Nat.{ℕ, _+_, _*_, _≤_, _<_}
 use native.Mathlib.Numerals.{add-one}
 use lib.ListN.{length, getD, drop, drop-of-length-le}
 use lib.Seq.{drop-cons}
+use Rattle.model.specs.Limits.{digitUnit}
 use Rattle.model.specs.Patterns.{codeFrom, code}
 
 -- the digits that are read already are `a`, and those from index i on are left
-pub code-more : (a i : ℕ) (l : List ℕ) → i < length l → codeFrom (a * 16 + getD l i 0) (drop (i + 1) l) ≡ codeFrom a (drop i l)
+pub code-more : (a i : ℕ) (l : List ℕ) → i < length l → codeFrom (a * digitUnit + getD l i 0) (drop (i + 1) l) ≡ codeFrom a (drop i l)
 unfolding codeFrom
 code-more a i l h = rw (add-one, drop-cons l i 0)
 

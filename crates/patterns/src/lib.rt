@@ -1,4 +1,5 @@
 // Patterns: check 11, the minimum repeat, and the code of a pattern.
+use model::DIGIT_UNIT;
 ghost use mathlib.Core.Path.{_≡_};
 ghost use Prim.Native.Nat.{_≤_};
 ghost use lib.ListN.{length};
@@ -6,8 +7,10 @@ ghost use Rattle.model.specs.Limits.{mostLongest};
 ghost use Rattle.model.specs.Patterns.{keyed?, foldedLength, code, Keyed};
 ghost use Rattle.patterns.specs.Repeats.{repeats?, lengthFrom};
 
-// The longest pattern that a layout may have (check 2).
-pub const MOST_LONGEST: u32 = 4;
+// The model's numbers, in the width of what is checked.
+const MOST_LONGEST: u32 = model::MOST_LONGEST as u32;
+
+const MOST_LABEL: u8 = model::MOST_LABEL as u8;
 
 // The minimum repeat of a pattern, which is its first `length` labels.
 pub struct Folded {
@@ -30,7 +33,7 @@ pub fn is_keyed(longest: u32, pattern: &[u8]) -> bool
         if label < 1 {
             return false;
         }
-        if 8 < label {
+        if MOST_LABEL < label {
             return false;
         }
         i += 1;
@@ -91,7 +94,7 @@ pub fn code(pattern: &[u8]) -> u64
     let mut digits: u64 = 0;
     let mut i = 0;
     while i < pattern.len() {
-        digits = digits * 16 + pattern[i] as u64;
+        digits = digits * DIGIT_UNIT + pattern[i] as u64;
         i += 1;
     }
     digits

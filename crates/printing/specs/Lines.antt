@@ -5,7 +5,7 @@ use Prim.Native.Nat.{ℕ, zero, suc, _+_, _/_, _%_}
 use lib.Dec.{ltb}
 use lib.ListN.{length}
 use Rattle.model.specs.Lists.{spread}
-use Rattle.model.specs.Limits.{sideUnit, mostLongest}
+use Rattle.model.specs.Limits.{mostLongest, digitUnit, sideUnit}
 use Rattle.model.specs.Query.{ownerOf, hubOf, codeOf}
 
 -- the digits of n in base b, with no zeros in front, at most `most` of them. Byte 48 is the digit 0
@@ -19,7 +19,7 @@ number n = digits 10 10 n
 
 -- the labels (colours) of a pattern: its code's hexadecimal digits
 abbrev pub labels : ℕ → List ℕ
-labels code = digits 16 mostLongest code
+labels code = digits digitUnit mostLongest code
 
 abbrev pub space : List ℕ
 space = 32 ∷ []

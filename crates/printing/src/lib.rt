@@ -1,8 +1,13 @@
 // The lines that the programs print, as bytes in lent memory: entries, the header, and a refusal. Each function writes from `at` on, leaves
 // all other bytes as they were, and returns where its text ends.
+use model::HUB_UNIT;
+use model::MOST_LONGEST;
+use model::OWNER_UNIT;
+use model::SIDE_UNIT;
 ghost use Prim.Native.Nat.{_+_, _*_, _^_, _≤_, _<_};
 ghost use mathlib.Core.List.{_++_, _∷_, []};
 ghost use lib.ListN.{length};
+ghost use Rattle.model.specs.Limits.{digitUnit};
 ghost use Rattle.model.specs.Lists.{spread};
 ghost use Rattle.printing.specs.Puts.{Puts};
 ghost use Rattle.printing.specs.Lines.{
@@ -14,6 +19,11 @@ ghost use Rattle.printing.specs.Lines.{
   refusedLine,
   listing,
 };
+
+// The model's numbers, in the width of what is printed.
+const MOST_VERTICES: u64 = model::MOST_VERTICES as u64;
+
+const DIGIT_UNIT: u32 = model::DIGIT_UNIT as u32;
 
 // One byte.
 fn put(out: &mut [u8], at: usize, byte: u8) -> usize
@@ -34,7 +44,7 @@ fn put_text(out: &mut [u8], at: usize, text: &[u8]) -> usize
 
 // The digits of n, `most` of them at most.
 fn put_digits(out: &mut [u8], at: usize, n: u32, base: u32, most: usize) -> usize
-    requires { ⌜ (1 ≤ base) × ((base ≤ 16) × (at + most ≤ length (now out))) ⌝ }
+    requires { ⌜ (1 ≤ base) × ((base ≤ digitUnit) × (at + most ≤ length (now out))) ⌝ }
     ensures { λ r. ⌜ Puts (now (out .entry)) at (digits base most n) (now (out .exit)) r ⌝ }
 {
     if most == 0 {
@@ -61,8 +71,8 @@ fn put_side(out: &mut [u8], at: usize, entry: u64) -> usize
     requires { ⌜ at + 14 ≤ length (now out) ⌝ }
     ensures { λ r. ⌜ Puts (now (out .entry)) at (sideLine entry) (now (out .exit)) r ⌝ }
 {
-    let owner = (entry / 16777216 % 256) as u32;
-    if entry < 4294967296 {
+    let owner = (entry / OWNER_UNIT % MOST_VERTICES) as u32;
+    if entry < SIDE_UNIT {
         return put_field(out, at, b"out ", owner);
     }
     put_field(out, at, b"in ", owner)
@@ -74,9 +84,9 @@ pub fn put_entry(out: &mut [u8], at: usize, entry: u64) -> usize
     ensures { λ r. ⌜ Puts (now (out .entry)) at (entryLine entry) (now (out .exit)) r ⌝ }
 {
     let side = put_side(out, at, entry);
-    let hub = put_field(out, side, b" ", (entry / 65536 % 256) as u32);
+    let hub = put_field(out, side, b" ", (entry / HUB_UNIT % MOST_VERTICES) as u32);
     let space = put(out, hub, b' ');
-    let labels = put_digits(out, space, (entry % 65536) as u32, 16, 4);
+    let labels = put_digits(out, space, (entry % HUB_UNIT) as u32, DIGIT_UNIT, MOST_LONGEST);
     put(out, labels, b'\n')
 }
 

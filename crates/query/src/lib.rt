@@ -4,6 +4,7 @@ use model::QueryReply;
 use model::Refusal;
 ghost use mathlib.Core.Path.{_≡_};
 ghost use mathlib.Core.Bool.{Bool, _&&_};
+ghost use mathlib.Core.List.{[]};
 ghost use Prim.Native.Nat.{_≤_, _<_, _^_};
 ghost use lib.ListN.{length};
 ghost use Rattle.model.specs.Lists.{Rising, Bracket, mem?};
@@ -12,12 +13,13 @@ ghost use Rattle.model.specs.Edges.{zeros?, label?};
 ghost use Rattle.model.specs.Patterns.{Keyed};
 ghost use Rattle.model.specs.Query.{code?};
 ghost use Rattle.model.specs.Replies.{answeredOf};
+ghost use Rattle.calls.specs.Call.{lent, Meets};
 ghost use Rattle.calls.specs.Query.{queryCall};
 ghost use Rattle.query.specs.Memory.{scanOf, Says};
 ghost use Rattle.query.specs.Codes.{repeats?};
 ghost use Rattle.query.specs.Scan.{Seen, Looks, FieldEnd, Skims};
 ghost use Rattle.query.specs.Parts.{Listed, Joins};
-ghost use Rattle.query.specs.Call.{Checks};
+ghost use Rattle.query.specs.Call.{QueryChecks};
 
 // What the fields of an entry are multiplied by. Hub and code together are what is below OWNER.
 const HUB: u64 = 65536;
@@ -294,7 +296,10 @@ fn check(
     pattern: &[u8],
     index: &[u64],
 ) -> Checked
-    ensures { λ r. ⌜ Checks vertices longest start destination (now (pattern .entry)) (now (index .entry)) r ⌝ }
+    ensures { λ r. ⌜
+        QueryChecks (record { vertices = vertices; longest = longest }) start destination (now (pattern .entry))
+        (lent [] (now (index .entry)) []) r
+        ⌝ }
 {
     let header = checks::check_header(vertices, longest);
     if let Answer::Refused(refusal) = header {
@@ -322,7 +327,10 @@ pub fn query(
     pattern: &[u8],
     index: &[u64],
 ) -> QueryReply
-    ensures { λ r. ⌜ answeredOf r ≡ queryCall vertices longest start destination (now (pattern .entry)) (now (index .entry)) ⌝ }
+    ensures { λ r. ⌜
+        Meets (queryCall (record { vertices = vertices; longest = longest }) start destination (now (pattern .entry))
+        (lent [] (now (index .entry)) [])) (answeredOf r) (lent [] (now (index .entry)) [])
+        ⌝ }
 {
     let checked = check(vertices, longest, start, destination, pattern, index);
     match checked {

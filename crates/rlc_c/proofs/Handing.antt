@@ -1,30 +1,23 @@
 -- From the public calls to their C forms.
 use mathlib.Core.Path.{_≡_, refl, sym, ap, _∙_}
-use mathlib.Core.Bool.{true, false, cond}
+use mathlib.Core.Bool.{true, false}
 use mathlib.Core.List.{List, [], _∷_}
-use Prim.Native.Nat.{ℕ, _*_, _^_, _≤_}
-use native.Mathlib.Decide.{decLt}
+use Prim.Native.Nat.{ℕ, zero, suc, _≤_}
 use native.Mathlib.Omega.{arith}
-use lib.ListN.{length, drop, set}
+use lib.ListN.{length, set}
 use Rattle.model.specs.Limits.{mostLongest}
 use Rattle.model.specs.Patterns.{foldedLength}
-use Rattle.model.specs.Replies.{numberOf, answerOf, replyOf}
-use Rattle.model.specs.Query.{Answered}
+use Rattle.model.specs.Replies.{numberOf, answerOf}
 use Rattle.model.specs.declared.Refusal.{Refusal}
-use Rattle.model.specs.declared.SearchReply.{SearchReply}
-use Rattle.model.specs.declared.Answer.{Answer}
 use Rattle.model.specs.declared.Answer.the-variants.{Accepted, Refused}
 use Rattle.model.proofs.Tests.{test-true, test-false, test-eq, by-test}
 use Rattle.model.proofs.Patterns.{test-keyed, folded}
 use Rattle.model.proofs.Replies.{number-some}
-use Rattle.calls.specs.Change.{Header, Memory, back, none, Change, numbersOf, Leaves}
-use Rattle.calls.specs.Search.{Searched, SearchMeets}
-use Rattle.calls.specs.Card.{headBytes, headerOf, edgesOf, readRefusal, readCall, Written as CardWritten}
-use Rattle.calls.proofs.Settling.{Result, settledChange, settled}
-use Rattle.store.specs.Store.{numbers, Meets, wroteOf, WriteMeets}
+use Rattle.calls.specs.Call.{Memory, Outcome, Meets}
+use Rattle.calls.specs.Change.{Returned}
+use Rattle.store.specs.Store.{returned}
 use Rattle.store.specs.declared.Changed.{Changed}
-use Rattle.store.specs.declared.Written.{Written}
-use Rattle.rlc_c.specs.Interface.{two?, otherRecord, HandsBack, ChangesInC, answeredInC, repliedInC, SearchesInC, wroteInC, WritesInC}
+use Rattle.rlc_c.specs.Interface.{headerIn, two?, otherRecord, wordsAfter, HandsBack, ChangesInC}
 
 -- a record of another length
 pub other : (words : List ℕ) → (length words ≡ 2 → ⊥) → two? words ≡ false
@@ -33,11 +26,25 @@ other words d = test-false (test-eq (length words) 2) d
 pub two : (words : List ℕ) → length words ≡ 2 → two? words ≡ true
 two words e = test-true (test-eq (length words) 2) e
 
-pub untouched : {words : List ℕ} {m : Memory} {c : Change} → (length words ≡ 2 → ⊥)
-    → ChangesInC words m c otherRecord words (m .edges) (m .index) (m .work)
-untouched {words} d =
-    let e = other words d in
-    record { reply = rw e refl; words-after = rw e refl; edges-after = rw e refl; index-after = rw e refl; work-after = rw e refl }
+-- ---- any call
+
+-- with a record of another length that number is told, and nothing is touched
+pub untouched : {R : Type 0} {r : R} {m : Memory} → Meets (record { reply = r; memory = m }) r m
+untouched = record { reply-is = refl; edges-after = refl; index-after = refl; work-after = refl; output-after = refl }
+
+-- with a record of two numbers: what the call of the store promises, its reply told as a number
+pub called : {R : Type 0} (told : R → ℕ) {c : Outcome R} {reply : R} {m′ : Memory} {r : ℕ} → Meets c reply m′ → r ≡ told reply
+    → Meets (record { reply = told (c .reply); memory = c .memory }) r m′
+called told l q =
+    record {
+      reply-is = q ∙ ap told (l .reply-is);
+      edges-after = l .edges-after;
+      index-after = l .index-after;
+      work-after = l .work-after;
+      output-after = l .output-after;
+    }
+
+-- ---- changing calls
 
 -- two numbers written to a record of two
 pub written : (words : List ℕ) (a b : ℕ) → length words ≡ 2 → set (set words 0 a) 1 b ≡ a ∷ b ∷ []
@@ -46,81 +53,50 @@ written (x ∷ []) a b e = absurd (omega arith)
 written (x ∷ y ∷ []) a b e = refl
 written (x ∷ y ∷ z ∷ l) a b e = absurd (omega arith)
 
--- a call that hands back a record
-pub changed : {words words′ edges index work : List ℕ} {m : Memory} {c : Change} {h : Header} {made : Changed} {r : ℕ}
-    → length words ≡ 2 → c .handed ≡ back h → Meets c made edges index work → HandsBack made r words′ → ChangesInC words m c r words′ edges index work
-changed {words} {h = h} {made = made} e hands meets b =
-    let t = two words e in
-    let same : numbers (made .header) ≡ h = meets .header ∙ ap numbersOf hands in
-    let leaves = meets .leaves in
-    record {
-      reply = rw t (b .number ∙ leaves .answer);
-      words-after = rw (t, hands) (b .words-after ∙ ap (λ (k : Header). k .vertices ∷ k .longest ∷ []) same);
-      edges-after = rw t (leaves .edges-after);
-      index-after = rw t (leaves .index-after);
-      work-after = rw t (leaves .work-after);
-    }
+-- such a record holds what it says
+words-hold : (words : List ℕ) → length words ≡ 2 → headerIn words .vertices ∷ headerIn words .longest ∷ [] ≡ words
+words-hold [] e = absurd (omega arith)
+words-hold (x ∷ []) e = absurd (omega arith)
+words-hold (x ∷ y ∷ []) e = refl
+words-hold (x ∷ y ∷ z ∷ l) e = absurd (omega arith)
 
--- a card that is refused hands back none
-kept : {words edges index work : List ℕ} {m : Memory} {c : Change} {answer : Answer} {r : ℕ}
-    → length words ≡ 2 → c .handed ≡ none → Leaves c answer edges index work → r ≡ answerOf answer → ChangesInC words m c r words edges index work
-kept {words} e hands l q =
-    let t = two words e in
-    record {
-      reply = rw t (q ∙ l .answer);
-      words-after = rw (t, hands) refl;
-      edges-after = rw t (l .edges-after);
-      index-after = rw t (l .index-after);
-      work-after = rw t (l .work-after);
-    }
+module _ {words : List ℕ} {m : Memory} {c : Outcome Returned} where
+  pub unchanged : (length words ≡ 2 → ⊥) → ChangesInC words m c otherRecord words m
+  unchanged d = record { meets = rw (other words d) untouched; words-after = rw (other words d) refl }
 
--- the record that a card reading hands back: the card's where it is accepted, else none
-read-result : (card : List ℕ) (m : Memory)
-    → (n : ℕ) × Result (readCall card m) none m (settledChange (headerOf card) (edgesOf (drop headBytes card)) m) n
-unfolding readCall readRefusal
-read-result card m = (_, settled none (headerOf card) (edgesOf (drop headBytes card)) m _ tt)
+  module _ (e : length words ≡ 2) {made : Changed} {m′ : Memory} {r : ℕ} (l : Meets c (returned made) m′) where
+    -- a call that hands back the record given with a refusal
+    pub changed : {words′ : List ℕ} → c .reply .header ≡ headerIn words → HandsBack made r words′ → ChangesInC words m c r words′ m′
+    changed {words′} hands b =
+        record {
+          meets = rw (two words e) (called (λ (x : Returned). x .answer) l (b .number));
+          words-after = rw (two words e) (b .words-after ∙ ap (λ (k : Returned). k .header .vertices ∷ k .header .longest ∷ []) (l .reply-is) ∙ go (c .reply .answer));
+        }
+      where
+        go : (n : ℕ) → c .reply .header .vertices ∷ c .reply .header .longest ∷ [] ≡ wordsAfter words n (c .reply .header)
+        go zero = refl
+        go (suc n) = rw hands (words-hold words e)
 
-read-accepted : (card : List ℕ) (m : Memory) → 0 ≡ readCall card m .answer → readCall card m .handed ≡ back (headerOf card)
-read-accepted card m e =
-    let (n, r) = read-result card m in
-    elim (decLt 0 n) [ yes h ↦ absurd (omega (arith, h, r .answer h, e)) | no h ↦ ap (λ (c : Change). c .handed) (r .accepted (omega (arith, h))) ]
+    -- a card that is refused, and one that is accepted
+    pub card-refused : {refusal : Refusal} → made .answer ≡ Refused refusal → r ≡ numberOf refusal → ChangesInC words m c r words m′
+    card-refused {refusal} told q =
+        let number : answerOf (made .answer) ≡ numberOf refusal = ap answerOf told in
+        record {
+          meets = rw (two words e) (called (λ (x : Returned). x .answer) l (q ∙ sym number));
+          words-after = rw (two words e) (go (c .reply .answer) (sym (ap (λ (k : Returned). k .answer) (l .reply-is)) ∙ number));
+        }
+      where
+        go : (n : ℕ) → n ≡ numberOf refusal → words ≡ wordsAfter words n (c .reply .header)
+        go zero e = absurd (omega (arith, e, number-some refusal))
+        go (suc n) e = refl
 
-read-refused : (card : List ℕ) (m : Memory) (refusal : Refusal) → numberOf refusal ≡ readCall card m .answer → readCall card m .handed ≡ none
-read-refused card m refusal e =
-    let (n, r) = read-result card m in
-    elim (decLt 0 n) [
-      | yes h ↦ r .handed h
-      | no h ↦ absurd (let z = ap (λ (c : Change). c .answer) (r .accepted (omega (arith, h))) in omega (arith, z, e, number-some refusal))
-    ]
-
-module _ (card : List ℕ) {words edges index work : List ℕ} {m : Memory} {made : Changed} {r : ℕ} (e : length words ≡ 2) (meets : Meets (readCall card m) made edges index work) where
-  pub card-refused : {refusal : Refusal} → made .answer ≡ Refused refusal → r ≡ numberOf refusal → ChangesInC words m (readCall card m) r words edges index work
-  card-refused {refusal} told q =
-      let number : numberOf refusal ≡ answerOf (made .answer) = sym (ap answerOf told) in
-      kept e (read-refused card m refusal (number ∙ meets .leaves .answer)) (meets .leaves) (q ∙ number)
-
-  pub card-accepted : {words′ : List ℕ} → made .answer ≡ Accepted → HandsBack made r words′ → ChangesInC words m (readCall card m) r words′ edges index work
-  card-accepted told b = changed e (read-accepted card m (sym (ap answerOf told) ∙ meets .leaves .answer)) meets b
-
--- ---- calls that change no record
-
-pub answered : (words : List ℕ) {reply call : Answered} {r : ℕ} → length words ≡ 2 → reply ≡ call → r ≡ answeredInC reply
-    → r ≡ cond (two? words) (answeredInC call) otherRecord
-answered words e s q = rw (two words e) (q ∙ ap answeredInC s)
-
-module _ {words work : List ℕ} {c : Searched} where
-  pub unsearched : (length words ≡ 2 → ⊥) → SearchesInC words work c (otherRecord * 2 ^ 32) work
-  unsearched d = let e = other words d in record { reply = rw e refl; work-after = rw e refl }
-
-  pub searched : {r : ℕ} {work′ : List ℕ} {reply : SearchReply} → length words ≡ 2 → SearchMeets c reply work′ → r ≡ repliedInC (replyOf reply) → SearchesInC words work c r work′
-  searched e s q = let t = two words e in record { reply = rw t (q ∙ ap repliedInC (s .reply)); work-after = rw t (s .work-after) }
-
-module _ {words output : List ℕ} {c : CardWritten} where
-  pub unwritten : (length words ≡ 2 → ⊥) → WritesInC words output c (otherRecord * 2 ^ 32) output
-  unwritten d = let e = other words d in record { reply = rw e refl; output-after = rw e refl }
-
-  pub wrote : {r : ℕ} {output′ : List ℕ} {reply : Written} → length words ≡ 2 → WriteMeets c reply output′ → r ≡ wroteInC (wroteOf reply) → WritesInC words output c r output′
-  wrote e s q = let t = two words e in record { reply = rw t (q ∙ ap wroteInC (s .reply)); output-after = rw t (s .output-after) }
+    pub card-accepted : {words′ : List ℕ} → made .answer ≡ Accepted → HandsBack made r words′ → ChangesInC words m c r words′ m′
+    card-accepted {words′} told b =
+        let zero-is : c .reply .answer ≡ 0 = sym (ap (λ (k : Returned). k .answer) (l .reply-is)) ∙ ap answerOf told in
+        record {
+          meets = rw (two words e) (called (λ (x : Returned). x .answer) l (b .number));
+          words-after = rw (two words e, zero-is) (b .words-after ∙ ap (λ (k : Returned). k .header .vertices ∷ k .header .longest ∷ []) (l .reply-is));
+        }
 
 -- a minimum repeat has at most four labels
 pub folded-short : (l : List ℕ) → foldedLength l ≤ mostLongest

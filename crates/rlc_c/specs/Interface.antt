@@ -2,15 +2,15 @@
 use mathlib.Core.Path.{_≡_}
 use mathlib.Core.Bool.{Bool, cond}
 use mathlib.Core.List.{List, [], _∷_}
-use Prim.Native.Nat.{ℕ, _+_, _*_, _^_}
+use Prim.Native.Nat.{ℕ, zero, suc, _+_, _*_, _^_}
 use lib.Dec.{eqb}
 use lib.ListN.{length, getD}
 use Rattle.model.specs.Levels.{Reply, Yes, No, Spent, Refused}
 use Rattle.model.specs.Query.{Answered, Yes as AnsweredYes, No as AnsweredNo, Refused as AnsweredRefused}
 use Rattle.model.specs.Replies.{answerOf}
-use Rattle.calls.specs.Change.{Header, Memory, Handed, back, none, Change}
-use Rattle.calls.specs.Search.{Searched}
-use Rattle.calls.specs.Card.{Wrote, Length, Refused as NotWritten, Written}
+use Rattle.calls.specs.Call.{Header, Memory, Outcome, Meets}
+use Rattle.calls.specs.Change.{Returned}
+use Rattle.calls.specs.Card.{Wrote, Length, Refused as NotWritten}
 use Rattle.store.specs.declared.Changed.{Changed}
 
 -- the record that the numbers lent hold
@@ -24,23 +24,24 @@ two? words = eqb (length words) 2
 abbrev pub otherRecord : ℕ
 otherRecord = 255
 
--- the numbers lent as record, afterwards: the record handed back, or as they were where there is none
-abbrev pub handedTo : List ℕ → Handed → List ℕ
-handedTo words (back h) = h .vertices ∷ h .longest ∷ []
-handedTo words none = words
+-- the C form of a call: its reply as a number and memory afterwards; with a record of another length that number, and memory as it was
+abbrev pub inC : {R : Type 0} → List ℕ → (R → ℕ) → ℕ → Memory → Outcome R → Outcome ℕ
+inC words told other m c = cond (two? words) (record { reply = told (c .reply); memory = c .memory }) (record { reply = other; memory = m })
+
+-- the numbers lent as record, afterwards: the record handed back if the call is accepted. (A refusal hands back the record as given, or none.)
+abbrev pub wordsAfter : List ℕ → ℕ → Header → List ℕ
+wordsAfter words zero h = h .vertices ∷ h .longest ∷ []
+wordsAfter words (suc n) h = words
+
+-- a changing call: 0 or the number of the refusal, the record handed back, and memory afterwards
+pub record ChangesInC (words : List ℕ) (m : Memory) (c : Outcome Returned) (r : ℕ) (words′ : List ℕ) (m′ : Memory) : Type 0 where
+  pub meets : Meets (inC words (λ x. x .answer) otherRecord m c) r m′
+  pub words-after : words′ ≡ cond (two? words) (wordsAfter words (c .reply .answer) (c .reply .header)) words
 
 -- what a changing call of the store hands back: its answer as a number, and its record as the numbers lent
 pub record HandsBack (c : Changed) (r : ℕ) (words : List ℕ) : Type 0 where
   pub number : r ≡ answerOf (c .answer)
   pub words-after : words ≡ c .header .vertices ∷ c .header .longest ∷ []
-
--- a changing call: 0 or the number of the refusal, the record handed back, and memory afterwards
-pub record ChangesInC (words : List ℕ) (m : Memory) (c : Change) (r : ℕ) (words′ edges index work : List ℕ) : Type 0 where
-  pub reply : r ≡ cond (two? words) (c .answer) otherRecord
-  pub words-after : words′ ≡ cond (two? words) (handedTo words (c .handed)) words
-  pub edges-after : edges ≡ cond (two? words) (c .memory .edges) (m .edges)
-  pub index-after : index ≡ cond (two? words) (c .memory .index) (m .index)
-  pub work-after : work ≡ cond (two? words) (c .memory .work) (m .work)
 
 -- "0 no, 100 yes, else the number"
 abbrev pub answeredInC : Answered → ℕ
@@ -48,22 +49,18 @@ answeredInC AnsweredYes = 100
 answeredInC AnsweredNo = 0
 answeredInC (AnsweredRefused n) = n
 
+-- what stands above the levels in a reply
+abbrev pub replyUnit : ℕ
+replyUnit = 2 ^ 32
+
 -- "reply × 2^32 + levels: 0 no, 100 yes, 101 spent, else the number with levels 0"
 abbrev pub repliedInC : Reply → ℕ
-repliedInC (Yes c) = 100 * 2 ^ 32 + c
+repliedInC (Yes c) = 100 * replyUnit + c
 repliedInC (No c) = c
-repliedInC (Spent c) = 101 * 2 ^ 32 + c
-repliedInC (Refused n) = n * 2 ^ 32
-
-pub record SearchesInC (words work : List ℕ) (c : Searched) (r : ℕ) (work′ : List ℕ) : Type 0 where
-  pub reply : r ≡ cond (two? words) (repliedInC (c .reply)) (otherRecord * 2 ^ 32)
-  pub work-after : work′ ≡ cond (two? words) (c .work) work
+repliedInC (Spent c) = 101 * replyUnit + c
+repliedInC (Refused n) = n * replyUnit
 
 -- "number × 2^32 refused; the length accepted"
 abbrev pub wroteInC : Wrote → ℕ
 wroteInC (Length n) = n
-wroteInC (NotWritten n) = n * 2 ^ 32
-
-pub record WritesInC (words output : List ℕ) (c : Written) (r : ℕ) (output′ : List ℕ) : Type 0 where
-  pub reply : r ≡ cond (two? words) (wroteInC (c .reply)) (otherRecord * 2 ^ 32)
-  pub output-after : output′ ≡ cond (two? words) (c .output) output
+wroteInC (NotWritten n) = n * replyUnit

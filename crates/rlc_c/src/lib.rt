@@ -7,15 +7,16 @@ use store::Changed;
 use store::Header;
 use store::Written;
 ghost use mathlib.Core.Path.{_≡_};
-ghost use mathlib.Core.Bool.{cond};
+ghost use Prim.Native.Nat.{_*_};
 ghost use mathlib.Core.List.{[]};
 ghost use lib.ListN.{length, getD};
-ghost use Rattle.model.specs.Patterns.{foldedLength};
+ghost use Rattle.model.specs.Patterns.{Folds};
+ghost use Rattle.calls.specs.Call.{lent, Meets};
 ghost use Rattle.calls.specs.Change.{openCall, insertCall, removeCall};
 ghost use Rattle.calls.specs.Card.{readCall, writeCall};
 ghost use Rattle.calls.specs.Query.{queryCall};
 ghost use Rattle.calls.specs.Search.{searchCall};
-ghost use Rattle.rlc_c.specs.Interface.{headerIn, two?, otherRecord, HandsBack, ChangesInC, answeredInC, SearchesInC, WritesInC};
+ghost use Rattle.rlc_c.specs.Interface.{headerIn, otherRecord, replyUnit, inC, HandsBack, ChangesInC, answeredInC, repliedInC, wroteInC};
 
 const OTHER_RECORD: u32 = 255;
 
@@ -24,7 +25,7 @@ const YES: u32 = 100;
 const SPENT: u32 = 101;
 
 // A reply stands above 32 bits for the levels.
-const UNIT: u64 = 4294967296;
+const UNIT: u64 = 1 << 32;
 
 // The record that two words hold.
 fn header_in(words: &[u32]) -> Header
@@ -56,9 +57,9 @@ fn hand_back(words: &mut [u32], changed: Changed) -> u32
 #[no_mangle]
 pub extern "C" fn rlc_open(words: &mut [u32], edges: &mut [u32], index: &mut [u64]) -> u32
     ensures { λ r. ⌜
-        ChangesInC (now (words .entry)) (record { edges = now (edges .entry); index = now (index .entry); work = [] })
-        (openCall (headerIn (now (words .entry))) (record { edges = now (edges .entry); index = now (index .entry); work = [] }))
-        r (now (words .exit)) (now (edges .exit)) (now (index .exit)) []
+        ChangesInC (now (words .entry)) (lent (now (edges .entry)) (now (index .entry)) [])
+        (openCall (headerIn (now (words .entry))) (lent (now (edges .entry)) (now (index .entry)) []))
+        r (now (words .exit)) (lent (now (edges .exit)) (now (index .exit)) [])
         ⌝ }
 {
     if words.len() != 2 {
@@ -82,10 +83,10 @@ pub extern "C" fn rlc_insert(
 ) -> u32
     ensures { λ r. ⌜
         ChangesInC (now (words .entry))
-        (record { edges = now (edges .entry); index = now (index .entry); work = now (work .entry) })
+        (lent (now (edges .entry)) (now (index .entry)) (now (work .entry)))
         (insertCall (headerIn (now (words .entry))) from label to
-        (record { edges = now (edges .entry); index = now (index .entry); work = now (work .entry) }))
-        r (now (words .exit)) (now (edges .exit)) (now (index .exit)) (now (work .exit))
+        (lent (now (edges .entry)) (now (index .entry)) (now (work .entry))))
+        r (now (words .exit)) (lent (now (edges .exit)) (now (index .exit)) (now (work .exit)))
         ⌝ }
 {
     if words.len() != 2 {
@@ -109,10 +110,10 @@ pub extern "C" fn rlc_remove(
 ) -> u32
     ensures { λ r. ⌜
         ChangesInC (now (words .entry))
-        (record { edges = now (edges .entry); index = now (index .entry); work = now (work .entry) })
+        (lent (now (edges .entry)) (now (index .entry)) (now (work .entry)))
         (removeCall (headerIn (now (words .entry))) from label to
-        (record { edges = now (edges .entry); index = now (index .entry); work = now (work .entry) }))
-        r (now (words .exit)) (now (edges .exit)) (now (index .exit)) (now (work .exit))
+        (lent (now (edges .entry)) (now (index .entry)) (now (work .entry))))
+        r (now (words .exit)) (lent (now (edges .exit)) (now (index .exit)) (now (work .exit)))
         ⌝ }
 {
     if words.len() != 2 {
@@ -123,7 +124,7 @@ pub extern "C" fn rlc_remove(
     hand_back(words, changed)
 }
 
-// Card reading. The record is written where the card is accepted.
+// Card reading. The record is written if the card is accepted.
 #[no_mangle]
 pub extern "C" fn rlc_read_card(
     words: &mut [u32],
@@ -134,10 +135,10 @@ pub extern "C" fn rlc_read_card(
 ) -> u32
     ensures { λ r. ⌜
         ChangesInC (now (words .entry))
-        (record { edges = now (edges .entry); index = now (index .entry); work = now (work .entry) })
+        (lent (now (edges .entry)) (now (index .entry)) (now (work .entry)))
         (readCall (now (card .entry))
-        (record { edges = now (edges .entry); index = now (index .entry); work = now (work .entry) }))
-        r (now (words .exit)) (now (edges .exit)) (now (index .exit)) (now (work .exit))
+        (lent (now (edges .entry)) (now (index .entry)) (now (work .entry))))
+        r (now (words .exit)) (lent (now (edges .exit)) (now (index .exit)) (now (work .exit)))
         ⌝ }
 {
     if words.len() != 2 {
@@ -161,9 +162,9 @@ pub extern "C" fn rlc_query(
     index: &[u64],
 ) -> u32
     ensures { λ r. ⌜
-        r ≡ cond (two? (now (words .entry)))
-        (answeredInC (queryCall (headerIn (now (words .entry)) .vertices) (headerIn (now (words .entry)) .longest)
-        start destination (now (pattern .entry)) (now (index .entry)))) otherRecord
+        Meets (inC (now (words .entry)) answeredInC otherRecord (lent [] (now (index .entry)) [])
+        (queryCall (headerIn (now (words .entry))) start destination (now (pattern .entry)) (lent [] (now (index .entry)) [])))
+        r (lent [] (now (index .entry)) [])
         ⌝ }
 {
     if words.len() != 2 {
@@ -190,10 +191,10 @@ pub extern "C" fn rlc_search(
     work: &mut [u64],
 ) -> u64
     ensures { λ r. ⌜
-        SearchesInC (now (words .entry)) (now (work .entry))
-        (searchCall (headerIn (now (words .entry)) .vertices) (headerIn (now (words .entry)) .longest)
-        start destination (now (pattern .entry)) «level_limit» (now (edges .entry)) (now (work .entry)))
-        r (now (work .exit))
+        Meets (inC (now (words .entry)) repliedInC (otherRecord * replyUnit) (lent (now (edges .entry)) [] (now (work .entry)))
+        (searchCall (headerIn (now (words .entry))) start destination (now (pattern .entry)) «level_limit»
+        (lent (now (edges .entry)) [] (now (work .entry)))))
+        r (lent (now (edges .entry)) [] (now (work .exit)))
         ⌝ }
 {
     if words.len() != 2 {
@@ -221,9 +222,10 @@ pub extern "C" fn rlc_search(
 #[no_mangle]
 pub extern "C" fn rlc_write_card(words: &[u32], edges: &[u32], output: &mut [u8]) -> u64
     ensures { λ r. ⌜
-        WritesInC (now (words .entry)) (now (output .entry))
-        (writeCall (headerIn (now (words .entry))) (now (edges .entry)) (now (output .entry)))
-        r (now (output .exit))
+        Meets (inC (now (words .entry)) wroteInC (otherRecord * replyUnit)
+        (record { edges = now (edges .entry); index = []; work = []; output = now (output .entry) })
+        (writeCall (headerIn (now (words .entry))) (record { edges = now (edges .entry); index = []; work = []; output = now (output .entry) })))
+        r (record { edges = now (edges .entry); index = []; work = []; output = now (output .exit) })
         ⌝ }
 {
     if words.len() != 2 {
@@ -237,10 +239,10 @@ pub extern "C" fn rlc_write_card(words: &[u32], edges: &[u32], output: &mut [u8]
     }
 }
 
-// The length of a pattern's minimum repeat.
+// The length of a pattern's minimum repeat, which is the pattern's first labels.
 #[no_mangle]
 pub extern "C" fn rlc_minimum_repeat(pattern: &[u8]) -> u32
-    ensures { λ r. ⌜ r ≡ foldedLength (now (pattern .entry)) ⌝ }
+    ensures { λ r. ⌜ Folds (now (pattern .entry)) r ⌝ }
 {
     let folded = store::minimum_repeat(pattern);
     folded.length as u32

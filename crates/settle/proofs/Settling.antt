@@ -14,7 +14,8 @@ use Rattle.model.specs.declared.Answer.the-variants.{Accepted, Refused}
 use Rattle.model.specs.declared.Refusal.the-variants.{IndexSlots}
 use Rattle.model.proofs.Tests.{test-lt, test-yields, test-fails}
 use Rattle.model.proofs.Lists.{part-all}
-use Rattle.calls.specs.Change.{Header, graphOf, Memory, none}
+use Rattle.calls.specs.Call.{Header, graphOf, Memory, lent}
+use Rattle.calls.specs.Card.{noRecord}
 use Rattle.calls.proofs.Change.{settle-fits, settle-short}
 use Rattle.edges.specs.Memory.{Narrow}
 use Rattle.rows.specs.Region.{savedNumbers}
@@ -92,7 +93,7 @@ module _ {h : Header} {n : ℕ} {edges index work : List ℕ} (s : Settleable h 
     restored-narrow = subst Narrow (sym restored) (s .narrow)
 
   abbrev saved : Memory
-  saved = record { edges = savedIn work edges; index = index; work = work }
+  saved = lent (savedIn work edges) index work
 
   module _ {index′ work′ work″ : List ℕ} (zero : work″ ≡ zeroed work) where
     -- 13: edge memory is as it was saved, index memory as it came
@@ -101,11 +102,11 @@ module _ {h : Header} {n : ℕ} {edges index work : List ℕ} (s : Settleable h 
         → Settles h n edges index work (Refused IndexSlots) edges′ index′ work″
     settles-short x {edges′} e =
         let (fewer, same) = short x in
-        rw (e ∙ restored (x .saved), same) (settle-short none h (take n edges) saved fewer zero)
+        settle-short noRecord h (take n edges) saved fewer (e ∙ restored (x .saved)) same zero refl
 
     -- accepted: the index is built
     pub settles-fits : {k : ℕ} → Indexes (graphOf h (take n edges)) index work index′ work′ (Entries k)
         → Settles h n edges index work Accepted edges index′ work″
     settles-fits x =
         let (fits, is) = full x in
-        settle-fits none h (take n edges) saved fits (s .zeros ∙ ap (λ (k : ℕ). filled k (take n edges)) (sym saved-size)) is zero
+        settle-fits noRecord h (take n edges) saved fits (s .zeros ∙ ap (λ (k : ℕ). filled k (take n edges)) (sym saved-size)) is zero refl

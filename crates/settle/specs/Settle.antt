@@ -8,7 +8,10 @@ use Rattle.model.specs.Lists.{_∈_, Rising, filled}
 use Rattle.model.specs.Limits.{mostEdges, leastWork}
 use Rattle.model.specs.Edges.{Bounds, edge?}
 use Rattle.model.specs.declared.Answer.{Answer}
-use Rattle.calls.specs.Change.{Header, none, Leaves, settle}
+use Rattle.model.specs.Replies.{answerOf}
+use Rattle.calls.specs.Call.{Header, lent, Meets}
+use Rattle.calls.specs.Change.{answers, settle}
+use Rattle.calls.specs.Card.{noRecord}
 use Rattle.edges.specs.Memory.{Narrow}
 use Rattle.rows.specs.Region.{savedNumbers}
 
@@ -36,4 +39,4 @@ pub record Settleable (h : Header) (n : ℕ) (edges index work : List ℕ) : Typ
 -- the answer and memory afterwards are those of settling, from the edge memory that was saved
 abbrev pub Settles : (h : Header) (n : ℕ) (edges index work : List ℕ) (r : Answer) (edges′ index′ work′ : List ℕ) → Type 0
 Settles h n edges index work r edges′ index′ work′ =
-    Leaves (settle none h (take n edges) (record { edges = savedIn work edges; index = index; work = work })) r edges′ index′ work′
+    Meets (answers (settle noRecord h (take n edges) (lent (savedIn work edges) index work))) (answerOf r) (lent edges′ index′ work′)

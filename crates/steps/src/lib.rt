@@ -123,7 +123,7 @@ pub fn branch(edges: &[u32], w: &mut [u64], starts: usize, base: usize)
     while i < edges.len() {
         let x = edges[i];
         if rows::bit(w, starts, (x % LABEL_UNIT) as usize) == 1 {
-            let c = (x / LABEL_UNIT % (FROM_UNIT / LABEL_UNIT)) as usize;
+            let c = (x / LABEL_UNIT % edges::LABELS) as usize;
             rows::mark(w, base + c - 1, (x / FROM_UNIT) as usize);
         }
         i += 1;

@@ -2,22 +2,22 @@
 // of the header (record): each takes it and hands it back with the answer.
 use checks::Standing;
 use model::Answer;
+use model::HEAD_BYTES;
 use model::QueryReply;
 use model::Refusal;
 use model::SearchReply;
+use model::TRIPLE_BYTES;
 use patterns::Folded;
 ghost use mathlib.Core.Path.{_≡_};
 ghost use mathlib.Core.List.{[]};
-ghost use Rattle.model.specs.Patterns.{foldedLength};
-ghost use Rattle.model.specs.Replies.{answeredOf, numberOf};
+ghost use Rattle.model.specs.Patterns.{Folds};
+ghost use Rattle.model.specs.Replies.{answeredOf, numberOf, replyOf};
+ghost use Rattle.calls.specs.Call.{lent, Meets};
 ghost use Rattle.calls.specs.Change.{openCall, insertCall, removeCall};
 ghost use Rattle.calls.specs.Card.{readCall, writeCall};
 ghost use Rattle.calls.specs.Query.{queryCall};
-ghost use Rattle.calls.specs.Search.{searchCall, SearchMeets};
-ghost use Rattle.store.specs.Store.{numbers, Meets, Writings, WriteMeets};
-
-// Mark, version, vertices less one, k and edge count; each edge is 3 bytes behind them.
-const HEAD: usize = 9;
+ghost use Rattle.calls.specs.Search.{searchCall};
+ghost use Rattle.store.specs.Store.{numbers, returned, wroteOf};
 
 // "The record holds the number of places and k."
 pub struct Header {
@@ -41,8 +41,8 @@ impl Header {
     // Opening. It is lent no work memory.
     pub fn open(self, edges: &mut [u32], index: &mut [u64]) -> Changed
         ensures { λ r. ⌜
-            Meets (openCall (numbers self) (record { edges = now (edges .entry); index = now (index .entry); work = [] }))
-            r (now (edges .exit)) (now (index .exit)) []
+            Meets (openCall (numbers self) (lent (now (edges .entry)) (now (index .entry)) []))
+            (returned r) (lent (now (edges .exit)) (now (index .exit)) [])
             ⌝ }
     {
         let answer = changes::open(self.vertices, self.longest, edges, index);
@@ -64,8 +64,8 @@ impl Header {
     ) -> Changed
         ensures { λ r. ⌜
             Meets (insertCall (numbers self) from label to
-            (record { edges = now (edges .entry); index = now (index .entry); work = now (work .entry) }))
-            r (now (edges .exit)) (now (index .exit)) (now (work .exit))
+            (lent (now (edges .entry)) (now (index .entry)) (now (work .entry))))
+            (returned r) (lent (now (edges .exit)) (now (index .exit)) (now (work .exit)))
             ⌝ }
     {
         let answer = changes::insert(
@@ -96,8 +96,8 @@ impl Header {
     ) -> Changed
         ensures { λ r. ⌜
             Meets (removeCall (numbers self) from label to
-            (record { edges = now (edges .entry); index = now (index .entry); work = now (work .entry) }))
-            r (now (edges .exit)) (now (index .exit)) (now (work .exit))
+            (lent (now (edges .entry)) (now (index .entry)) (now (work .entry))))
+            (returned r) (lent (now (edges .exit)) (now (index .exit)) (now (work .exit)))
             ⌝ }
     {
         let answer = changes::remove(
@@ -120,9 +120,8 @@ impl Header {
 // Reads a layout card. The header of a refusal is all zero: no record.
 pub fn read_card(card: &[u8], edges: &mut [u32], index: &mut [u64], work: &mut [u64]) -> Changed
     ensures { λ r. ⌜
-        Meets (readCall (now (card .entry))
-        (record { edges = now (edges .entry); index = now (index .entry); work = now (work .entry) }))
-        r (now (edges .exit)) (now (index .exit)) (now (work .exit))
+        Meets (readCall (now (card .entry)) (lent (now (edges .entry)) (now (index .entry)) (now (work .entry))))
+        (returned r) (lent (now (edges .exit)) (now (index .exit)) (now (work .exit)))
         ⌝ }
 {
     let read = changes::read(card, edges, index, work);
@@ -136,32 +135,21 @@ pub fn read_card(card: &[u8], edges: &mut [u32], index: &mut [u64], work: &mut [
     }
 }
 
-// The checks of a card that is written: 1 2 3 17.
-fn check_write(vertices: u32, longest: u32, edges: &[u32], output: &[u8]) -> Standing
-    ensures { λ r. ⌜ Writings (record { vertices = vertices; longest = longest }) (now (edges .entry)) (now (output .entry)) r ⌝ }
-{
-    let layout = checks::check_layout(vertices, longest, edges);
-    let Standing::Edges(n) = layout else {
-        return layout;
-    };
-    if output.len() < HEAD + 3 * n {
-        return Standing::Refused(Refusal::CardOutput);
-    }
-    Standing::Edges(n)
-}
-
 // Writes the layout card to the front of the output, and returns its length.
 pub fn write_card(header: Header, edges: &[u32], output: &mut [u8]) -> Written
-    ensures { λ r. ⌜ WriteMeets (writeCall (numbers header) (now (edges .entry)) (now (output .entry))) r (now (output .exit)) ⌝ }
+    ensures { λ r. ⌜
+        Meets (writeCall (numbers header) (record { edges = now (edges .entry); index = []; work = []; output = now (output .entry) }))
+        (wroteOf r) (record { edges = now (edges .entry); index = []; work = []; output = now (output .exit) })
+        ⌝ }
 {
     let vertices = header.vertices;
     let longest = header.longest;
-    let standing = check_write(vertices, longest, edges, output);
+    let standing = card::check_write(vertices, longest, edges, output);
     match standing {
         Standing::Refused(refusal) => Written::Refused(refusal),
         Standing::Edges(n) => {
             card::write(vertices, longest, &edges[..n], output);
-            Written::Length(HEAD + 3 * n)
+            Written::Length(HEAD_BYTES + TRIPLE_BYTES * n)
         }
     }
 }
@@ -175,7 +163,8 @@ pub fn query(
     index: &[u64],
 ) -> QueryReply
     ensures { λ r. ⌜
-        answeredOf r ≡ queryCall (header .vertices) (header .longest) start destination (now (pattern .entry)) (now (index .entry))
+        Meets (queryCall (numbers header) start destination (now (pattern .entry)) (lent [] (now (index .entry)) []))
+        (answeredOf r) (lent [] (now (index .entry)) [])
         ⌝ }
 {
     query::query(
@@ -199,8 +188,8 @@ pub fn level_search(
     work: &mut [u64],
 ) -> SearchReply
     ensures { λ r. ⌜
-        SearchMeets (searchCall (header .vertices) (header .longest) start destination (now (pattern .entry)) «level_limit»
-        (now (edges .entry)) (now (work .entry))) r (now (work .exit))
+        Meets (searchCall (numbers header) start destination (now (pattern .entry)) «level_limit»
+        (lent (now (edges .entry)) [] (now (work .entry)))) (replyOf r) (lent (now (edges .entry)) [] (now (work .exit)))
         ⌝ }
 {
     level_search::search(
@@ -215,9 +204,9 @@ pub fn level_search(
     )
 }
 
-// The length of a pattern's minimum repeat.
+// The length of a pattern's minimum repeat, which is the pattern's first labels.
 pub fn minimum_repeat(pattern: &[u8]) -> Folded
-    ensures { λ r. ⌜ r .length ≡ foldedLength (now (pattern .entry)) ⌝ }
+    ensures { λ r. ⌜ Folds (now (pattern .entry)) (r .length) ⌝ }
 {
     patterns::minimum_repeat(pattern)
 }

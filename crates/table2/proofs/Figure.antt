@@ -21,7 +21,7 @@ use Rattle.build.specs.Build.{Buildable, Builds}
 use Rattle.build.specs.declared.Built.{Built}
 use Rattle.build.specs.declared.Built.the-variants.{Entries, TooMany}
 use Rattle.printing.specs.Lines.{digits, sideLine, entryLine}
-use Rattle.demands.specs.Trials.{figure2, tableII}
+use Rattle.worked_examples.specs.Trials.{figure2, tableII}
 
 abbrev pub edges : List ℕ
 edges = 257 ∷ 514 ∷ 4356 ∷ 4612 ∷ 8449 ∷ 8453 ∷ 8704 ∷ 8707 ∷ 12544 ∷ 13061 ∷ 16640 ∷ []

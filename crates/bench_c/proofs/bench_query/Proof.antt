@@ -19,13 +19,13 @@ enum-told-3 : tie.Need-enum-told-3
 enum-told-3 c = search needs
 
 returns : tie.Need-returns
-returns c = ap answerNumber (ap answeredOf (sym (c .enum-told .given .1)) ∙ c .before .before .query .ensures)
+returns c = ap answerNumber (ap answeredOf (sym (c .enum-told .given .1)) ∙ c .before .before .query .ensures .reply-is)
 
 returns-2 : tie.Need-returns-2
-returns-2 c = ap answerNumber (ap answeredOf (sym (c .enum-told2 .given .1)) ∙ c .before .before .query .ensures)
+returns-2 c = ap answerNumber (ap answeredOf (sym (c .enum-told2 .given .1)) ∙ c .before .before .query .ensures .reply-is)
 
 returns-3 : tie.Need-returns-3
-returns-3 c = ap answerNumber (ap answeredOf (sym (c .enum-told3 .given .1)) ∙ c .before .before .query .ensures)
+returns-3 c = ap answerNumber (ap answeredOf (sym (c .enum-told3 .given .1)) ∙ c .before .before .query .ensures .reply-is)
 
 pub bench-query-spec : {M : Type 1} → statement M
 bench-query-spec =

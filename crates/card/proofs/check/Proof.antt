@@ -6,7 +6,8 @@ use native.Mathlib.Omega.{arith}
 use borrow.Author.Needs.{needs}
 use borrow.Author.Tests.{eq-eqb, ne-eqb}
 use lib.ListN.{length}
-use Rattle.calls.specs.Card.{headBytes, marked?, version?}
+use Rattle.model.specs.Limits.{headBytes}
+use Rattle.calls.specs.Card.{marked?, version?}
 use Rattle.calls.proofs.Checks.{none, pass, stop}
 use Rattle.calls.proofs.Card.{marked-head, card-is}
 use Rattle.card.proofs.check.Statement.{statement}

@@ -3,7 +3,8 @@ use mathlib.Core.List.{_++_}
 use Prim.Native.Nat.{_-_, _≤_}
 use native.Mathlib.Omega.{arith}
 use lib.ListN.{length, drop}
-use Rattle.calls.specs.Card.{headBytes, edgesOf}
+use Rattle.model.specs.Limits.{headBytes}
+use Rattle.calls.specs.Card.{edgesOf}
 use Rattle.edges.proofs.Mix.{Mixed}
 use Rattle.edges.proofs.Copying.{save-start, save-end}
 use Rattle.card.proofs.Filling.{cardEdges, card-edges-size, fill-turn, zeros-behind}

@@ -1,8 +1,9 @@
 -- `card::has_legs` meets its contract.
-use mathlib.Core.Path.{_≡_, sym, ap, _∙_}
+use mathlib.Core.Path.{sym, ap, _∙_}
 use native.Mathlib.Omega.{arith}
 use borrow.Author.Needs.{needs}
-use Rattle.calls.specs.Card.{headBytes, headerOf, risingTriples?}
+use Rattle.model.specs.Limits.{headBytes}
+use Rattle.calls.specs.Card.{headerOf, risingTriples?}
 use Rattle.calls.proofs.Card.{card-edges-long, card-edges-body}
 use Rattle.model.proofs.Lists.{part-all}
 use Rattle.card.proofs.has_edges.Statement.{statement}

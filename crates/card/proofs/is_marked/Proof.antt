@@ -1,5 +1,5 @@
 -- `card::is_marked` meets its contract.
-use mathlib.Core.Path.{_≡_, sym, _∙_}
+use mathlib.Core.Path.{sym, _∙_}
 use borrow.Author.Needs.{needs}
 use borrow.Author.Tests.{eq-eqb, ne-eqb}
 use Rattle.calls.proofs.Card.{and-pass, and-stop, marked-short, marked-at}

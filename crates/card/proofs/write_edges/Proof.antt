@@ -2,6 +2,7 @@
 use Prim.Native.Nat.{_-_, _*_}
 use native.Mathlib.Omega.{arith}
 use lib.ListN.{length, length-set}
+use Rattle.model.specs.Limits.{tripleBytes}
 use Rattle.edges.proofs.Mix.{Mixed}
 use Rattle.card.proofs.Writing.{bytesOver, body-start, edge-narrow, body-turn, body-end}
 use borrow.Author.Needs.{needs}
@@ -9,7 +10,7 @@ use Rattle.card.proofs.write_edges.Statement.{statement}
 use Rattle.card.proofs.write_edges.Tie as tie
 
 abbrev Inv-loop : tie.InvT-loop
-Inv-loop edges output₀ i₀ output i = Mixed (bytesOver edges output₀) output₀ output (3 * i)
+Inv-loop edges output₀ i₀ output i = Mixed (bytesOver edges output₀) output₀ output (tripleBytes * i)
 
 abbrev μ-loop : tie.MeasureT-loop
 μ-loop edges output₀ i₀ output i = length edges - i

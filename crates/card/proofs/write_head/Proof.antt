@@ -1,6 +1,4 @@
 -- `card::write_head` meets its contract: nine stores, one behind another.
-use mathlib.Core.List.{[], _∷_}
-use Prim.Native.Nat.{_-_, _/_}
 use native.Mathlib.Omega.{arith}
 use lib.ListN.{length-set}
 use lib.Seq.{sets-eq}

@@ -2,7 +2,7 @@
 use mathlib.Core.Path.{sym, _∙_}
 use native.Mathlib.Omega.{arith}
 use borrow.Author.Needs.{needs}
-use Rattle.card.specs.Card.{Passes}
+use Rattle.card.specs.Card.{CardPasses}
 use Rattle.changes.proofs.Reading.{read-stops, read-many, read-full, read-short, read-passes}
 use Rattle.changes.proofs.check_read.Statement.{statement}
 use Rattle.changes.proofs.check_read.Tie as tie
@@ -12,7 +12,7 @@ start c = c .before .before .before .before .before .before .before .before
 
 -- the card has passed
 passed : (c : tie.After-known-told2)
-    → Passes (start c .args .card .now) (record { vertices = c .before .checked2 .given .0 .0; longest = c .before .checked2 .given .0 .1 .0 }) (c .before .checked2 .given .0 .1 .1 .0)
+    → CardPasses (start c .args .card .now) (record { vertices = c .before .checked2 .given .0 .0; longest = c .before .checked2 .given .0 .1 .0 }) (c .before .checked2 .given .0 .1 .1 .0)
 passed c = rw (c .before .checked2 .given .1) at (c .before .before .before .check .ensures)
 
 check-requires : tie.Need-check-requires

@@ -1,5 +1,5 @@
 -- `changes::insert` meets its contract: a refusal leaves memory alone; else edge memory is saved, the insertion made and settled.
-use mathlib.Core.Path.{ap, _∙_}
+use mathlib.Core.Path.{refl, ap, _∙_}
 use mathlib.Core.List.{List}
 use Prim.Native.Nat.{ℕ}
 use native.Mathlib.Omega.{arith}
@@ -7,7 +7,7 @@ use borrow.Author.Needs.{needs}
 use lib.ListN.{length}
 use Rattle.model.specs.Lists.{filled}
 use Rattle.model.specs.Edges.{edgeNumber, standing, insertEdge}
-use Rattle.calls.specs.Change.{Header, Memory, back}
+use Rattle.calls.specs.Call.{Header, Memory, lent}
 use Rattle.named.specs.Named.{Places}
 use Rattle.named.proofs.Naming.{numbered}
 use Rattle.changes.proofs.Trying.{Tried, save-room, settleable, settled}
@@ -22,7 +22,7 @@ abbrev header : tie.After-known-told2 → Header
 header c = record { vertices = start c .args .vertices; longest = start c .args .longest }
 
 abbrev memory : tie.After-known-told2 → Memory
-memory c = record { edges = start c .args .edges .now; index = start c .args .index .now; work = start c .args .work .now }
+memory c = lent (start c .args .edges .now) (start c .args .index .now) (start c .args .work .now)
 
 -- the wanted edges
 abbrev wanted : tie.After-known-told2 → List ℕ
@@ -101,7 +101,7 @@ returns-2 c =
     let settle = c .before .before .before .before .before .before in
     let k = settle .before .before .before .before in
     let p = passed (checked k) in
-    insert-leaves p (settled (insert-wanted p) (tried k) (back (header (checked k))) (settle .settle .ensures))
+    insert-leaves p (settled (insert-wanted p) (tried k) (header (checked k)) refl (settle .settle .ensures))
 
 pub insert-spec : {M : Type 1} → statement M
 insert-spec =

@@ -1,5 +1,5 @@
 -- `changes::open` meets its contract: a refusal leaves memory alone, and else edge and index memory are zeroed.
-use mathlib.Core.Path.{_≡_, sym, ap, _∙_}
+use mathlib.Core.Path.{_≡_, refl, sym, ap, _∙_}
 use borrow.Author.Needs.{needs}
 use borrow.Author.Tests.{le-leb, lt-leb}
 use Rattle.model.specs.Replies.{answerOf}
@@ -52,7 +52,7 @@ unfolding openRefusal
 returns-3 c =
     let few = c .before .before .before .before .before .before .before .before in
     open-leaves _ _ (first-is (header-pass _ _ (header (few .before)) (pass (le-leb _ _ (few .if1 .left)) none)))
-    (c .before .before .before .before .before .before .clear-edges .ensures) (c .before .before .clear-work .ensures)
+    (c .before .before .before .before .before .before .clear-edges .ensures) (c .before .before .clear-work .ensures) refl refl
 
 pub open-spec : {M : Type 1} → statement M
 open-spec =

@@ -1,15 +1,20 @@
 -- `changes::read` meets its contract: a refusal leaves memory alone; else edge memory is saved, filled from the card, and settled.
-use mathlib.Core.Path.{sym, ap}
+use mathlib.Core.Path.{refl, ap}
 use mathlib.Core.List.{List}
 use Prim.Native.Nat.{ℕ}
 use native.Mathlib.Omega.{arith}
 use borrow.Author.Needs.{needs}
 use lib.ListN.{drop}
-use Rattle.calls.specs.Change.{Header, Memory, none, numbersOf, Leaves, settle}
-use Rattle.calls.specs.Card.{headBytes, edgesOf}
+use Rattle.model.specs.Limits.{headBytes}
+use Rattle.model.specs.Replies.{answerOf}
+use Rattle.model.specs.declared.Answer.the-variants.{Accepted, Refused}
+use Rattle.calls.specs.Call.{Header, Memory, lent, Meets}
+use Rattle.calls.specs.Change.{answers, settle}
+use Rattle.calls.specs.Card.{edgesOf, noRecord}
+use Rattle.calls.proofs.Calls.{meets-as}
 use Rattle.changes.specs.Changes.{Reads}
 use Rattle.changes.proofs.Trying.{Wanted, Tried, save-room, settleable, settled}
-use Rattle.changes.proofs.Reading.{read-fillable, read-wanted, read-leaves, read-hands, leaves-as, refused-leaves, refused-none}
+use Rattle.changes.proofs.Reading.{read-fillable, read-wanted, read-leaves, refused-leaves}
 use Rattle.changes.proofs.read.Statement.{statement}
 use Rattle.changes.proofs.read.Tie as tie
 
@@ -20,7 +25,7 @@ abbrev header : tie.After-known-told2 → Header
 header c = record { vertices = c .before .layout2 .given .0 .0; longest = c .before .layout2 .given .0 .1 .0 }
 
 abbrev memory : tie.After-known-told2 → Memory
-memory c = record { edges = start c .args .edges .now; index = start c .args .index .now; work = start c .args .work .now }
+memory c = lent (start c .args .edges .now) (start c .args .index .now) (start c .args .work .now)
 
 -- the edges of the card
 abbrev cardEdges : tie.After-known-told2 → List ℕ
@@ -51,9 +56,9 @@ abbrev filled : tie.After-settle → tie.After-slice-known5
 filled c = c .before .before .before .before
 
 leaves : (c : tie.After-settle)
-    → Leaves (settle none (header (checked (filled c))) (cardEdges (checked (filled c))) (memory (checked (filled c)))) (c .settle .result)
-    (c .settle .last .1 .1 .1 .0) (c .settle .last .1 .1 .1 .1 .0) (c .settle .last .1 .1 .1 .1 .1 .0)
-leaves c = settled (wanted (checked (filled c))) (tried (filled c)) none (c .settle .ensures)
+    → Meets (answers (settle noRecord (header (checked (filled c))) (cardEdges (checked (filled c))) (memory (checked (filled c))))) (answerOf (c .settle .result))
+    (lent (c .settle .last .1 .1 .1 .0) (c .settle .last .1 .1 .1 .1 .0) (c .settle .last .1 .1 .1 .1 .1 .0))
+leaves c = settled (wanted (checked (filled c))) (tried (filled c)) noRecord refl (c .settle .ensures)
 
 check-read-requires : tie.Need-check-read-requires
 check-read-requires c κs = search needs
@@ -88,9 +93,7 @@ same-length-3 c = search needs
 returns : tie.Need-returns
 returns c =
     let k = c .before .before .before .before .before .before .before .before .before in
-    let l = leaves-as (c .before .answer .given .1) (leaves k) in
-    let p = passed (checked (filled k)) in
-    record { header = sym (ap numbersOf (read-hands p l)); leaves = read-leaves p l }
+    read-leaves (passed (checked (filled k))) (Refused (c .before .answer .given .0 .0)) (meets-as (ap answerOf (c .before .answer .given .1)) (leaves k))
 
 enum-told : tie.Need-enum-told
 enum-told c = search needs
@@ -106,8 +109,7 @@ same-length-6 c = search needs
 
 returns-2 : tie.Need-returns-2
 returns-2 c =
-    let e = rw (c .before .layout .given .1) at (c .before .before .before .check-read .ensures) in
-    record { header = sym (ap numbersOf (refused-none _ _ (c .before .layout .given .0 .0) e)); leaves = refused-leaves _ _ (c .before .layout .given .0 .0) e }
+    refused-leaves _ _ (c .before .layout .given .0 .0) (rw (c .before .layout .given .1) at (c .before .before .before .check-read .ensures))
 
 same-length-7 : tie.Need-same-length-7
 same-length-7 c = search needs
@@ -121,9 +123,7 @@ same-length-9 c = search needs
 returns-3 : tie.Need-returns-3
 returns-3 c =
     let k = c .before .before .before .before .before .before .before .before in
-    let l = leaves-as (c .enum-told .given .1) (leaves k) in
-    let p = passed (checked (filled k)) in
-    record { header = sym (ap numbersOf (read-hands p l)); leaves = read-leaves p l }
+    read-leaves (passed (checked (filled k))) Accepted (meets-as (ap answerOf (c .enum-told .given .1)) (leaves k))
 
 pub read-spec : {M : Type 1} → statement M
 read-spec =

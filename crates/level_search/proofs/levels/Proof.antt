@@ -1,12 +1,9 @@
 -- `level_search::levels` meets its contract: c levels are built, and the reply is what the levels from c + 1 on give.
 use mathlib.Core.Path.{_≡_, refl, _∙_}
-use Prim.Native.Nat.{ℕ, _+_, _-_, _≤_, _<_}
+use Prim.Native.Nat.{_-_}
 use native.Mathlib.Omega.{arith}
-use lib.ListN.{length, getD, set, length-set}
-use Rattle.model.specs.Levels.{mostStates}
-use Rattle.level_search.specs.Work.{Grown, Next}
-use Rattle.level_search.specs.Run.{Searchable}
-use Rattle.level_search.proofs.Stands.{Stands, stands-start, Built, built-start, built-yes, built-no, built-on, built-spent}
+use lib.ListN.{length, length-set}
+use Rattle.level_search.proofs.Stands.{stands-start, Built, built-start, built-yes, built-no, built-on, built-spent}
 use borrow.Author.Needs.{needs}
 use Rattle.level_search.proofs.levels.Statement.{statement}
 use Rattle.level_search.proofs.levels.Tie as tie

@@ -1,19 +1,19 @@
 -- `level_search::next_level` meets its contract: after the states before k, work memory has grown by what they lead to.
 use mathlib.Core.Path.{_≡_}
-use Prim.Native.Nat.{ℕ, suc, _+_, _-_, _≤_, _<_}
+use Prim.Native.Nat.{suc, _-_, _≤_, _<_}
 use native.Mathlib.Nat.{le-refl, le-antisymm}
 use native.Mathlib.Omega.{arith}
-use lib.ListN.{length, getD}
+use lib.ListN.{length}
 use Rattle.model.specs.Limits.{leastWork}
 use Rattle.model.specs.Levels.{mostStates}
-use Rattle.level_search.specs.Work.{Grown, Next, queue}
+use Rattle.level_search.specs.Work.{Grown, LedTo, queue}
 use Rattle.level_search.proofs.Grow.{room-top}
 use Rattle.level_search.proofs.Leads.{next-none, next-more}
 use Rattle.level_search.proofs.next_level.Statement.{statement}
 use Rattle.level_search.proofs.next_level.Tie as tie
 
 abbrev Inv-loop : tie.InvT-loop
-Inv-loop edges slots pattern work₀ lo hi n₀ k₀ work n k = (lo ≤ k) × ((k ≤ hi) × Grown work₀ hi work n (Next edges pattern work₀ lo k))
+Inv-loop edges slots pattern work₀ lo hi n₀ k₀ work n k = (lo ≤ k) × ((k ≤ hi) × Grown work₀ hi work n (LedTo edges pattern work₀ lo k))
 
 abbrev μ-loop : tie.MeasureT-loop
 μ-loop edges slots pattern work₀ lo hi n₀ k₀ work n k = hi - k

@@ -1,5 +1,5 @@
 -- `level_search::reach` meets its contract: a state that is marked adds nothing, and another is marked and queued, for which there is room.
-use Prim.Native.Nat.{ℕ, _≤_}
+use Prim.Native.Nat.{_≤_}
 use borrow.Author.Needs.{needs}
 use native.Mathlib.Omega.{arith}
 use lib.ListN.{length-set}

@@ -1,5 +1,5 @@
 -- `level_search::run` meets its contract: the front of work memory is zeroed for the levels, and then the whole.
-use mathlib.Core.Path.{_≡_, sym, ap, _∙_}
+use mathlib.Core.Path.{sym, ap, _∙_}
 use Prim.Native.Nat.{ℕ}
 use native.Mathlib.Nat.{le-of-eq}
 use lib.ListN.{replicate}

@@ -1,17 +1,21 @@
 -- `level_search::search` meets its contract: a refusal leaves work memory alone, and a search is over the standing edges and the minimum repeat.
 use mathlib.Core.Path.{sym}
+use mathlib.Core.List.{[]}
 use borrow.Author.Needs.{needs}
 use lib.Seq.{length-take-le}
-use Rattle.calls.proofs.Search.{search-refused}
-use Rattle.level_search.specs.Run.{Passes}
-use Rattle.level_search.proofs.Call.{part-edges, part-pattern, searchable, meets}
+use Rattle.calls.specs.Call.{lent}
+use Rattle.level_search.specs.Run.{SearchPasses}
+use Rattle.level_search.proofs.Call.{part-edges, part-pattern, searchable, meets, search-refused}
 use Rattle.level_search.proofs.search.Statement.{statement}
 use Rattle.level_search.proofs.search.Tie as tie
 
+abbrev start : tie.After-minimum-repeat → tie.Start
+start c = c .before .before .before .before .before .before .before .before .before
+
 -- all checks have passed
 passed : (c : tie.After-minimum-repeat)
-    → Passes (c .before .before .before .before .before .before .before .before .before .args .vertices) (c .before .before .before .before .before .before .before .before .before .args .longest) (c .before .before .before .before .before .before .before .before .before .args .start) (c .before .before .before .before .before .before .before .before .before .args .destination)
-    (c .before .before .before .before .before .before .before .before .before .args .pattern .now) (c .before .before .before .before .before .before .before .before .before .args .edges .now) (c .before .before .before .before .before .before .before .before .before .args .work .now) (c .before .before .checked2 .given .0 .0)
+    → SearchPasses (record { vertices = start c .args .vertices; longest = start c .args .longest }) (start c .args .start) (start c .args .destination)
+    (start c .args .pattern .now) (lent (start c .args .edges .now) [] (start c .args .work .now)) (c .before .before .checked2 .given .0 .0)
 passed c = rw (c .before .before .checked2 .given .1) at (c .before .before .before .before .check .ensures)
 
 check-requires : tie.Need-check-requires
@@ -39,7 +43,7 @@ same-length : tie.Need-same-length
 same-length c = search needs
 
 returns : tie.Need-returns
-returns c = search-refused _ _ _ _ _ _ _ _ (c .before .checked .given .0 .0) (rw (c .before .checked .given .1) at (c .before .before .before .check .ensures))
+returns c = search-refused _ _ _ _ _ _ (c .before .checked .given .0 .0) (rw (c .before .checked .given .1) at (c .before .before .before .check .ensures))
 
 same-length-2 : tie.Need-same-length-2
 same-length-2 c = search needs

@@ -3,7 +3,7 @@ use mathlib.Core.Path.{sym, ap, _∙_}
 use Prim.Native.Nat.{ℕ}
 use lib.ListN.{take}
 use Rattle.edges.specs.Memory.{findOf}
-use Rattle.calls.specs.Change.{Header, Memory}
+use Rattle.calls.specs.Call.{Header, Memory, lent}
 use Rattle.named.specs.Named.{Passes, Finds}
 use Rattle.named.proofs.Naming.{numbered, searchable}
 use borrow.Author.Needs.{needs}
@@ -17,7 +17,7 @@ abbrev header : tie.After-known-told2 → Header
 header c = record { vertices = start c .args .vertices; longest = start c .args .longest }
 
 abbrev memory : tie.After-known-told2 → Memory
-memory c = record { edges = start c .args .edges .now; index = start c .args .index .now; work = start c .args .work .now }
+memory c = lent (start c .args .edges .now) (start c .args .index .now) (start c .args .work .now)
 
 -- the checks 1 to 6 have passed
 passed : (c : tie.After-known-told2) → Passes (header c) (start c .args .from) (start c .args .label) (start c .args .to) (memory c) (c .before .standing2 .given .0 .0)

@@ -63,12 +63,10 @@ returns-3 c =
     let ends = sym (k .before .before .before .are-vertices .ensures) ∙ k .before .before .if1 .taken in
     let keyed = sym (k .before .is-keyed .ensures) ∙ k .if2 .taken in
     let scanned = sym (c .before .before .before .scan .ensures) ∙ c .before .scanned .given .1 in
-    let good = header-good _ _ (header told) in
     let (a, b) = test-yields (test-ends (start told .args .vertices) (start told .args .start) (start told .args .destination)) ends in
     record {
       is = first-is (header-pass _ _ (header told) (pass ends (pass keyed (pass (scans _ _ _ scanned .0) none))));
-      vertices-small = good .vertices-most;
-      longest-small = good .longest-most;
+      header = header-good _ _ (header told);
       start-vertex = a;
       destination-vertex = b;
       keyed = test-yields (test-keyed _ _) keyed;

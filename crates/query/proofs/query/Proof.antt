@@ -1,11 +1,12 @@
 -- `query::query` meets its contract: the query is put to the entries that stand, with the minimum repeat.
 use mathlib.Core.Path.{sym}
 use mathlib.Core.Bool.{true, false}
+use mathlib.Core.List.{[]}
 use borrow.Author.Needs.{needs}
 use lib.Seq.{length-take-le}
-use Rattle.calls.proofs.Query.{query-refused}
-use Rattle.query.specs.Call.{Passes}
-use Rattle.query.proofs.Call.{part-index, part-pattern, askable, meets}
+use Rattle.calls.specs.Call.{lent}
+use Rattle.query.specs.Call.{QueryPasses}
+use Rattle.query.proofs.Call.{part-index, part-pattern, askable, meets, query-refused}
 use Rattle.query.proofs.query.Statement.{statement}
 use Rattle.query.proofs.query.Tie as tie
 
@@ -14,7 +15,8 @@ start c = c .before .before .before .before .before .before .before
 
 -- all checks have passed
 passed : (c : tie.After-minimum-repeat)
-    → Passes (start c .args .vertices) (start c .args .longest) (start c .args .start) (start c .args .destination) (start c .args .pattern .now) (start c .args .index .now) (c .before .before .checked2 .given .0 .0)
+    → QueryPasses (record { vertices = start c .args .vertices; longest = start c .args .longest }) (start c .args .start) (start c .args .destination)
+    (start c .args .pattern .now) (lent [] (start c .args .index .now) []) (c .before .before .checked2 .given .0 .0)
 passed c = rw (c .before .before .checked2 .given .1) at (c .before .before .before .before .check .ensures)
 
 check-requires : tie.Need-check-requires
@@ -39,7 +41,7 @@ answer-requires : tie.Need-answer-requires
 answer-requires c κs = askable (passed (c .before .before)) _ (c .before .before .minimum-repeat .ensures)
 
 returns : tie.Need-returns
-returns c = query-refused _ _ _ _ _ _ (c .before .checked .given .0 .0) (rw (c .before .checked .given .1) at (c .before .before .before .check .ensures))
+returns c = query-refused _ _ _ _ _ (c .before .checked .given .0 .0) (rw (c .before .checked .given .1) at (c .before .before .before .check .ensures))
 
 returns-2 : tie.Need-returns-2
 returns-2 c =

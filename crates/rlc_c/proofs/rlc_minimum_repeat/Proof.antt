@@ -9,10 +9,10 @@ minimum-repeat-requires : tie.Need-minimum-repeat-requires
 minimum-repeat-requires c κs = search needs
 
 cast-result : tie.Need-cast-result
-cast-result c = omega (arith, c .before .minimum-repeat .ensures, folded-short (c .before .before .before .args .pattern .now))
+cast-result c = omega (arith, c .before .minimum-repeat .ensures .is, folded-short (c .before .before .before .args .pattern .now))
 
 returns : tie.Need-returns
-returns c = search needs
+returns c = c .before .minimum-repeat .ensures
 
 pub rlc-minimum-repeat-spec : {M : Type 1} → statement M
 rlc-minimum-repeat-spec = tie.close (tie.spec minimum-repeat-requires cast-result returns)

@@ -1,14 +1,14 @@
 -- `rlc_c::rlc_query` meets its contract.
-use mathlib.Core.Path.{refl, sym, ap, _∙_}
+use mathlib.Core.Path.{sym, ap, _∙_}
 use Rattle.model.specs.Replies.{answeredOf}
 use Rattle.rlc_c.specs.Interface.{answeredInC}
-use Rattle.rlc_c.proofs.Handing.{other, answered}
+use Rattle.rlc_c.proofs.Handing.{other, two, untouched, called}
 use borrow.Author.Needs.{needs}
 use Rattle.rlc_c.proofs.rlc_query.Statement.{statement}
 use Rattle.rlc_c.proofs.rlc_query.Tie as tie
 
 returns : tie.Need-returns
-returns c = rw (other (c .before .before .before .before .args .words .now) (c .if1 .taken)) refl
+returns c = rw (other (c .before .before .before .before .args .words .now) (c .if1 .taken)) untouched
 
 header-in-requires : tie.Need-header-in-requires
 header-in-requires c κs = search needs
@@ -31,17 +31,17 @@ refusal-number-requires c κs = search needs
 returns-2 : tie.Need-returns-2
 returns-2 c =
     let call = c .before .before in
-    answered (call .before .before .before .before .before .before .args .words .now) (call .before .before .if1 .left) (rw (call .before .header-in .ensures) at (call .query .ensures)) (ap answeredInC (ap answeredOf (sym (c .enum-told .given .1))))
+    rw (two (call .before .before .before .before .before .before .args .words .now) (call .before .before .if1 .left)) (called answeredInC (rw (call .before .header-in .ensures) at (call .query .ensures)) (ap answeredInC (ap answeredOf (sym (c .enum-told .given .1)))))
 
 returns-3 : tie.Need-returns-3
 returns-3 c =
     let call = c .before .before in
-    answered (call .before .before .before .before .before .before .args .words .now) (call .before .before .if1 .left) (rw (call .before .header-in .ensures) at (call .query .ensures)) (ap answeredInC (ap answeredOf (sym (c .enum-told2 .given .1))))
+    rw (two (call .before .before .before .before .before .before .args .words .now) (call .before .before .if1 .left)) (called answeredInC (rw (call .before .header-in .ensures) at (call .query .ensures)) (ap answeredInC (ap answeredOf (sym (c .enum-told2 .given .1)))))
 
 returns-4 : tie.Need-returns-4
 returns-4 c =
     let call = c .before .before .before .before in
-    answered (call .before .before .before .before .before .before .args .words .now) (call .before .before .if1 .left) (rw (call .before .header-in .ensures) at (call .query .ensures)) (c .refusal-number .ensures ∙ ap answeredInC (ap answeredOf (sym (c .before .before .reply .given .1))))
+    rw (two (call .before .before .before .before .before .before .args .words .now) (call .before .before .if1 .left)) (called answeredInC (rw (call .before .header-in .ensures) at (call .query .ensures)) (c .refusal-number .ensures ∙ ap answeredInC (ap answeredOf (sym (c .before .before .reply .given .1)))))
 
 pub rlc-query-spec : {M : Type 1} → statement M
 rlc-query-spec =

@@ -1,9 +1,9 @@
 -- `rlc_c::rlc_search` meets its contract.
 use mathlib.Core.Path.{sym, ap, _∙_}
-use Prim.Native.Nat.{ℕ, _*_, _^_}
+use Prim.Native.Nat.{ℕ, _*_}
 use Rattle.model.specs.Replies.{replyOf}
-use Rattle.rlc_c.specs.Interface.{repliedInC}
-use Rattle.rlc_c.proofs.Handing.{unsearched, searched}
+use Rattle.rlc_c.specs.Interface.{replyUnit, repliedInC}
+use Rattle.rlc_c.proofs.Handing.{other, two, untouched, called}
 use borrow.Author.Needs.{needs}
 use Rattle.rlc_c.proofs.rlc_search.Statement.{statement}
 use Rattle.rlc_c.proofs.rlc_search.Tie as tie
@@ -15,7 +15,7 @@ mul-result : tie.Need-mul-result
 mul-result c = search needs
 
 returns : tie.Need-returns
-returns c = unsearched (c .if1 .taken)
+returns c = rw (other (c .before .before .before .before .before .args .words .now) (c .if1 .taken)) untouched
 
 header-in-requires : tie.Need-header-in-requires
 header-in-requires c κs = search needs
@@ -78,7 +78,7 @@ returns-2 : tie.Need-returns-2
 returns-2 c =
     let call = c .before .before .before .before .before in
     let read = call .before .before in
-    searched (read .before .if1 .left) (rw (read .header-in .ensures) at (call .level-search .ensures)) (ap repliedInC (ap replyOf (sym (c .before .reply .given .1))))
+    rw (two (read .before .before .before .before .before .before .args .words .now) (read .before .if1 .left)) (called repliedInC (rw (read .header-in .ensures) at (call .level-search .ensures)) (ap repliedInC (ap replyOf (sym (c .before .reply .given .1)))))
 
 same-length-2 : tie.Need-same-length-2
 same-length-2 c = search needs
@@ -87,7 +87,7 @@ returns-3 : tie.Need-returns-3
 returns-3 c =
     let call = c .before .before .before .before .before in
     let read = call .before .before in
-    searched (read .before .if1 .left) (rw (read .header-in .ensures) at (call .level-search .ensures)) (ap repliedInC (ap replyOf (sym (c .before .reply2 .given .1))))
+    rw (two (read .before .before .before .before .before .before .args .words .now) (read .before .if1 .left)) (called repliedInC (rw (read .header-in .ensures) at (call .level-search .ensures)) (ap repliedInC (ap replyOf (sym (c .before .reply2 .given .1)))))
 
 same-length-3 : tie.Need-same-length-3
 same-length-3 c = search needs
@@ -96,7 +96,7 @@ returns-4 : tie.Need-returns-4
 returns-4 c =
     let call = c .before .before .before .before .before in
     let read = call .before .before in
-    searched (read .before .if1 .left) (rw (read .header-in .ensures) at (call .level-search .ensures)) (ap repliedInC (ap replyOf (sym (c .before .reply3 .given .1))))
+    rw (two (read .before .before .before .before .before .before .args .words .now) (read .before .if1 .left)) (called repliedInC (rw (read .header-in .ensures) at (call .level-search .ensures)) (ap repliedInC (ap replyOf (sym (c .before .reply3 .given .1)))))
 
 same-length-4 : tie.Need-same-length-4
 same-length-4 c = search needs
@@ -105,7 +105,7 @@ returns-5 : tie.Need-returns-5
 returns-5 c =
     let call = c .before .before .before .before .before .before in
     let read = call .before .before in
-    searched (read .before .if1 .left) (rw (read .header-in .ensures) at (call .level-search .ensures)) (ap (λ (n : ℕ). n * 2 ^ 32) (c .refusal-number .ensures) ∙ ap repliedInC (ap replyOf (sym (c .before .before .reply4 .given .1))))
+    rw (two (read .before .before .before .before .before .before .args .words .now) (read .before .if1 .left)) (called repliedInC (rw (read .header-in .ensures) at (call .level-search .ensures)) (ap (λ (n : ℕ). n * replyUnit) (c .refusal-number .ensures) ∙ ap repliedInC (ap replyOf (sym (c .before .before .reply4 .given .1)))))
 
 pub rlc-search-spec : {M : Type 1} → statement M
 rlc-search-spec =

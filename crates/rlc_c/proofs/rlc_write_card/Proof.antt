@@ -1,9 +1,9 @@
 -- `rlc_c::rlc_write_card` meets its contract.
 use mathlib.Core.Path.{sym, ap, _∙_}
-use Prim.Native.Nat.{ℕ, _*_, _^_}
+use Prim.Native.Nat.{ℕ, _*_}
 use Rattle.store.specs.Store.{wroteOf}
-use Rattle.rlc_c.specs.Interface.{wroteInC}
-use Rattle.rlc_c.proofs.Handing.{unwritten, wrote}
+use Rattle.rlc_c.specs.Interface.{replyUnit, wroteInC}
+use Rattle.rlc_c.proofs.Handing.{other, two, untouched, called}
 use borrow.Author.Needs.{needs}
 use Rattle.rlc_c.proofs.rlc_write_card.Statement.{statement}
 use Rattle.rlc_c.proofs.rlc_write_card.Tie as tie
@@ -15,7 +15,7 @@ mul-result : tie.Need-mul-result
 mul-result c = search needs
 
 returns : tie.Need-returns
-returns c = unwritten (c .if1 .taken)
+returns c = rw (other (c .before .before .before .before .args .words .now) (c .if1 .taken)) untouched
 
 header-in-requires : tie.Need-header-in-requires
 header-in-requires c κs = search needs
@@ -45,7 +45,7 @@ returns-2 : tie.Need-returns-2
 returns-2 c =
     let call = c .before .before .before .before .before in
     let read = call .before .before in
-    wrote (read .before .if1 .left) (rw (read .header-in .ensures) at (call .write-card .ensures)) (ap wroteInC (ap wroteOf (sym (c .before .written .given .1))))
+    rw (two (read .before .before .before .before .before .args .words .now) (read .before .if1 .left)) (called wroteInC (rw (read .header-in .ensures) at (call .write-card .ensures)) (ap wroteInC (ap wroteOf (sym (c .before .written .given .1)))))
 
 same-length-2 : tie.Need-same-length-2
 same-length-2 c = search needs
@@ -54,7 +54,7 @@ returns-3 : tie.Need-returns-3
 returns-3 c =
     let call = c .before .before .before .before .before .before in
     let read = call .before .before in
-    wrote (read .before .if1 .left) (rw (read .header-in .ensures) at (call .write-card .ensures)) (ap (λ (n : ℕ). n * 2 ^ 32) (c .refusal-number .ensures) ∙ ap wroteInC (ap wroteOf (sym (c .before .before .written2 .given .1))))
+    rw (two (read .before .before .before .before .before .args .words .now) (read .before .if1 .left)) (called wroteInC (rw (read .header-in .ensures) at (call .write-card .ensures)) (ap (λ (n : ℕ). n * replyUnit) (c .refusal-number .ensures) ∙ ap wroteInC (ap wroteOf (sym (c .before .before .written2 .given .1)))))
 
 pub rlc-write-card-spec : {M : Type 1} → statement M
 rlc-write-card-spec =

@@ -47,9 +47,6 @@ cast-bit c = omega arith
 bit-requires : tie.Need-bit-requires Inv-loop μ-loop
 bit-requires c κs = (record { row = c .before .before .before .before .before .before .before .before .before .before .pre .1 .starts-row; long = long (c .before .before .before) }, omega arith)
 
-rem-c : tie.Need-rem-c Inv-loop μ-loop
-rem-c c = omega arith
-
 cast-c : tie.Need-cast-c Inv-loop μ-loop
 cast-c c = omega arith
 
@@ -102,7 +99,6 @@ branch-spec =
     shared-slice-read-x
     cast-bit
     bit-requires
-    rem-c
     cast-c
     add-mark
     sub-mark

@@ -1,9 +1,11 @@
 -- `store::write_card` meets its contract: a refusal leaves the output alone; else the card of the standing edges is written.
 use mathlib.Core.Path.{sym}
+use mathlib.Core.List.{[]}
 use native.Mathlib.Omega.{arith}
 use borrow.Author.Needs.{needs}
 use lib.Seq.{length-take-le}
-use Rattle.store.specs.Store.{numbers, Writes}
+use Rattle.card.specs.Card.{WritePasses}
+use Rattle.store.specs.Store.{numbers}
 use Rattle.store.proofs.CardOut.{write-stops, memory, writable, wrote}
 use Rattle.store.proofs.write_card.Statement.{statement}
 use Rattle.store.proofs.write_card.Tie as tie
@@ -12,7 +14,9 @@ abbrev start : tie.After-known-told2 → tie.Start
 start c = c .before .before .before .before .before .before .before
 
 -- all checks have passed
-passed : (c : tie.After-known-told2) → Writes (numbers (start c .args .header)) (start c .args .edges .now) (start c .args .output .now) (c .before .standing2 .given .0 .0)
+passed : (c : tie.After-known-told2)
+    → WritePasses (numbers (start c .args .header)) (record { edges = start c .args .edges .now; index = []; work = []; output = start c .args .output .now })
+    (c .before .standing2 .given .0 .0)
 passed c = rw (c .before .standing2 .given .1) at (c .before .before .before .check-write .ensures)
 
 check-write-requires : tie.Need-check-write-requires
@@ -40,7 +44,7 @@ same-length : tie.Need-same-length
 same-length c = search needs
 
 returns : tie.Need-returns
-returns c = write-stops _ _ _ (c .before .standing .given .0 .0) (rw (c .before .standing .given .1) at (c .before .before .before .check-write .ensures))
+returns c = write-stops _ _ (c .before .standing .given .0 .0) (rw (c .before .standing .given .1) at (c .before .before .before .check-write .ensures))
 
 same-length-2 : tie.Need-same-length-2
 same-length-2 c = search needs

@@ -1,8 +1,6 @@
 -- `store::Header::insert` meets its contract: the insertion's, with the header as given.
-use mathlib.Core.Path.{sym, ap}
 use borrow.Author.Needs.{needs}
-use Rattle.calls.specs.Change.{numbersOf}
-use Rattle.calls.proofs.Change.{insert-hands}
+use Rattle.calls.proofs.Change.{with-header, insert-hands}
 use Rattle.store.proofs.Header.insert.Statement.{statement}
 use Rattle.store.proofs.Header.insert.Tie as tie
 
@@ -19,7 +17,7 @@ same-length-3 : tie.Need-same-length-3
 same-length-3 c = search needs
 
 returns : tie.Need-returns
-returns c = record { header = sym (ap numbersOf (insert-hands _ _ _ _ _)); leaves = c .before .before .before .before .before .before .insert .ensures }
+returns c = with-header _ (insert-hands _ _ _ _ _) (c .before .before .before .before .before .before .insert .ensures)
 
 pub insert-spec : {M : Type 1} → statement M
 insert-spec = tie.close (tie.spec insert-requires same-length same-length-2 same-length-3 returns)

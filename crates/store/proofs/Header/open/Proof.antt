@@ -1,8 +1,6 @@
 -- `store::Header::open` meets its contract: the opening's, with the header as given.
-use mathlib.Core.Path.{sym, ap}
 use borrow.Author.Needs.{needs}
-use Rattle.calls.specs.Change.{numbersOf}
-use Rattle.calls.proofs.Change.{open-hands}
+use Rattle.calls.proofs.Change.{with-header, open-hands}
 use Rattle.store.proofs.Header.open.Statement.{statement}
 use Rattle.store.proofs.Header.open.Tie as tie
 
@@ -16,7 +14,7 @@ same-length-2 : tie.Need-same-length-2
 same-length-2 c = search needs
 
 returns : tie.Need-returns
-returns c = record { header = sym (ap numbersOf (open-hands _ _)); leaves = c .before .before .before .before .«open» .ensures }
+returns c = with-header _ (open-hands _ _) (c .before .before .before .before .«open» .ensures)
 
 pub open-spec : {M : Type 1} → statement M
 open-spec = tie.close (tie.spec open-requires same-length same-length-2 returns)

@@ -1,8 +1,6 @@
 -- `store::Header::remove` meets its contract: the removal's, with the header as given.
-use mathlib.Core.Path.{sym, ap}
 use borrow.Author.Needs.{needs}
-use Rattle.calls.specs.Change.{numbersOf}
-use Rattle.calls.proofs.Change.{remove-hands}
+use Rattle.calls.proofs.Change.{with-header, remove-hands}
 use Rattle.store.proofs.Header.remove.Statement.{statement}
 use Rattle.store.proofs.Header.remove.Tie as tie
 
@@ -19,7 +17,7 @@ same-length-3 : tie.Need-same-length-3
 same-length-3 c = search needs
 
 returns : tie.Need-returns
-returns c = record { header = sym (ap numbersOf (remove-hands _ _ _ _ _)); leaves = c .before .before .before .before .before .before .remove .ensures }
+returns c = with-header _ (remove-hands _ _ _ _ _) (c .before .before .before .before .before .before .remove .ensures)
 
 pub remove-spec : {M : Type 1} → statement M
 remove-spec = tie.close (tie.spec remove-requires same-length same-length-2 same-length-3 returns)

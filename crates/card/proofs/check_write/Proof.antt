@@ -1,4 +1,4 @@
--- `store::check_write` meets its contract: each return is the first check that does not pass, or all have passed.
+-- `card::check_write` meets its contract: each return is the first check that does not pass, or all have passed.
 use Prim.Native.Nat.{_≤_}
 use native.Mathlib.Omega.{arith}
 use borrow.Author.Needs.{needs}
@@ -6,9 +6,9 @@ use Rattle.model.specs.Limits.{mostEdges}
 use Rattle.calls.specs.Card.{writeRefusal}
 use Rattle.checks.specs.LayoutChecks.{LayoutPasses}
 use Rattle.checks.proofs.LayoutChecks.{layout-stop, layout-memory}
-use Rattle.store.proofs.CardOut.{write-short, writes}
-use Rattle.store.proofs.check_write.Statement.{statement}
-use Rattle.store.proofs.check_write.Tie as tie
+use Rattle.card.proofs.WriteChecks.{write-short, writes}
+use Rattle.card.proofs.check_write.Statement.{statement}
+use Rattle.card.proofs.check_write.Tie as tie
 
 abbrev start : tie.After-known-told → tie.Start
 start c = c .before .before .before .before .before .before
@@ -40,10 +40,10 @@ add-if1 : tie.Need-add-if1
 add-if1 c = omega (arith, few c)
 
 returns-2 : tie.Need-returns-2
-returns-2 c = write-short _ _ _ (layout (c .before)) (c .if1 .taken)
+returns-2 c = write-short _ _ (layout (c .before)) (c .if1 .taken)
 
 returns-3 : tie.Need-returns-3
-returns-3 c = writes _ _ _ (layout (c .before)) (c .if1 .left)
+returns-3 c = writes _ _ (layout (c .before)) (c .if1 .left)
 
 pub check-write-spec : {M : Type 1} → statement M
 check-write-spec =

@@ -13,7 +13,8 @@ use Rattle.model.specs.Entries.{determined}
 use Rattle.model.specs.Query.{Answered, Yes as AnsweredYes, No as AnsweredNo, Refused as AnsweredRefused}
 use Rattle.calls.specs.Search.{searchCall}
 use Rattle.calls.specs.Query.{queryCall}
-use Rattle.calls.specs.Change.{Memory, Change, removeCall}
+use Rattle.calls.specs.Call.{Header, Memory, lent, Outcome}
+use Rattle.calls.specs.Change.{Returned, removeCall}
 use Rattle.calls.specs.Card.{readCall}
 
 -- a layout as a call meets it: vertices, k and edge memory
@@ -128,21 +129,24 @@ unfoldable pub entriesOf : Layout → List ℕ
 entriesOf y = determined (record { vertices = y .vertices; longest = y .longest; edges = standing (y .edges) })
 
 -- edge, index and work memory: the edges given, so many index slots, and the least work memory that a build may have
-unfoldable pub lent : List ℕ → ℕ → Memory
-lent edges room = record { edges = edges; index = replicate room 0; work = replicate (leastWork + room) 0 }
+unfoldable pub buildLent : List ℕ → ℕ → Memory
+buildLent edges room = lent edges (replicate room 0) (replicate (leastWork + room) 0)
+
+abbrev pub headerIn : Layout → Header
+headerIn y = record { vertices = y .vertices; longest = y .longest }
 
 -- a change has that number, and leaves that edge and index memory
-unfoldable pub leaves? : Change → ℕ → List ℕ → List ℕ → Bool
-leaves? c number edges index = eqb (c .answer) number && (same? (c .memory .edges) edges && same? (c .memory .index) index)
+unfoldable pub leaves? : Outcome Returned → ℕ → List ℕ → List ℕ → Bool
+leaves? c number edges index = eqb (c .reply .answer) number && (same? (c .memory .edges) edges && same? (c .memory .index) index)
 
 -- the definition gives what document 01 expects
 unfoldable pub holds? : Case → Bool
 holds? (repeats pattern expected) = same? (minRepeat pattern) expected
 holds? (searches y s t pattern limit expected) =
-    sameReply? (searchCall (y .vertices) (y .longest) s t pattern limit (y .edges) (replicate leastWork 0) .reply) expected
-holds? (queries y index s t pattern expected) = sameAnswer? (queryCall (y .vertices) (y .longest) s t pattern index) expected
+    sameReply? (searchCall (headerIn y) s t pattern limit (lent (y .edges) [] (replicate leastWork 0)) .reply) expected
+holds? (queries y index s t pattern expected) = sameAnswer? (queryCall (headerIn y) s t pattern (lent [] index []) .reply) expected
 holds? (indexed y expected) = same? (entriesOf y) expected
 holds? (counts y expected) = eqb (length (entriesOf y)) expected
-holds? (reads card slots room number edges index) = leaves? (readCall card (lent (replicate slots 0) room)) number edges index
+holds? (reads card slots room number edges index) = leaves? (readCall card (buildLent (replicate slots 0) room)) number edges index
 holds? (removes y room from label to number) =
-    eqb (removeCall (record { vertices = y .vertices; longest = y .longest }) from label to (lent (y .edges) room) .answer) number
+    eqb (removeCall (headerIn y) from label to (buildLent (y .edges) room) .reply .answer) number

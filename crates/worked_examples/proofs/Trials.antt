@@ -14,10 +14,10 @@ use Rattle.calls.specs.Search.{searchRefusal, searchCall}
 use Rattle.calls.specs.Query.{queryRefusal, queryCall}
 use Rattle.calls.specs.Change.{settle, removeRefusal, removeCall}
 use Rattle.calls.specs.Card.{edgesOf, risingTriples?, cardEdges?, readRefusal, readCall}
-use Rattle.demands.specs.Trials.{Case, A, figure2, tableII, slotsA, loop, B, removedB, cardA, trials, holds?, lent, leaves?, sameReply?, sameAnswer?, entriesOf}
+use Rattle.worked_examples.specs.Trials.{Case, A, figure2, tableII, slotsA, loop, B, removedB, cardA, trials, holds?, buildLent, leaves?, sameReply?, sameAnswer?, entriesOf}
 
 all-hold : T (all? holds? trials)
-unfolding A figure2 tableII slotsA loop B removedB cardA trials holds? lent leaves? sameReply? sameAnswer? entriesOf any? all? keep from spread edge? zeros? risingEdges? edgeMemory? standing removeEdge times keyed? repeatFrom minRepeat own? codeFrom words patterns weight place byWeight counted rank states leads? led? grow stage replyFrom levelReply runs? stop? allStops earliest? out? in? ofHub ofOwner ofSide entries determined digits code? entry? risingEntries? indexMemory? answers? firstRefusal searchRefusal searchCall queryRefusal queryCall settle removeRefusal removeCall edgesOf risingTriples? cardEdges? readRefusal readCall
+unfolding A figure2 tableII slotsA loop B removedB cardA trials holds? buildLent leaves? sameReply? sameAnswer? entriesOf any? all? keep from spread edge? zeros? risingEdges? edgeMemory? standing removeEdge times keyed? repeatFrom minRepeat own? codeFrom words patterns weight place byWeight counted rank states leads? led? grow stage replyFrom levelReply runs? stop? allStops earliest? out? in? ofHub ofOwner ofSide entries determined digits code? entry? risingEntries? indexMemory? answers? firstRefusal searchRefusal searchCall queryRefusal queryCall settle removeRefusal removeCall edgesOf risingTriples? cardEdges? readRefusal readCall
 all-hold = tt
 
 pub each-holds : (c : Case) → List·Memᴰ c trials → T (holds? c)

@@ -1,0 +1,47 @@
+-- The shape of every call: it takes the record and the memory lent to it, and gives a reply and what that memory holds afterwards.
+use mathlib.Core.Path.{_≡_}
+use mathlib.Core.List.{List, []}
+use Prim.Native.Nat.{ℕ, zero, suc}
+use Rattle.model.specs.Lists.{zeroed}
+use Rattle.model.specs.Edges.{Graph}
+
+-- "The record holds the number of places and k."
+pub record Header : Type 0 where
+  pub vertices : ℕ
+  pub longest : ℕ
+
+-- a header with its standing edges
+abbrev pub graphOf : Header → List ℕ → Graph
+graphOf h edges = record { vertices = h .vertices; longest = h .longest; edges = edges }
+
+-- edge (leg), index and work memory, and the output into which a call writes. What a call is not lent is empty
+pub record Memory : Type 0 where
+  pub edges : List ℕ
+  pub index : List ℕ
+  pub work : List ℕ
+  pub output : List ℕ
+
+abbrev pub lent : (edges index work : List ℕ) → Memory
+lent edges index work = record { edges = edges; index = index; work = work; output = [] }
+
+-- the same with work memory zero, over its whole lent length
+abbrev pub cleared : Memory → Memory
+cleared m = record { edges = m .edges; index = m .index; work = zeroed (m .work); output = m .output }
+
+-- the reply, and memory afterwards
+pub record Outcome (R : Type 0) : Type 0 where
+  pub reply : R
+  pub memory : Memory
+
+-- "The first that applies is returned. .. All lent memory is unchanged": the refusal with that number, or if there is none what the call comes to
+abbrev pub refusing : {R : Type 0} → (ℕ → R) → Memory → ℕ → Outcome R → Outcome R
+refusing refused m zero done = done
+refusing refused m (suc n) done = record { reply = refused (suc n); memory = m }
+
+-- what a function promises that makes the call: its reply and memory afterwards are the definition's
+pub record Meets {R : Type 0} (call : Outcome R) (reply : R) (m : Memory) : Type 0 where
+  pub reply-is : reply ≡ call .reply
+  pub edges-after : m .edges ≡ call .memory .edges
+  pub index-after : m .index ≡ call .memory .index
+  pub work-after : m .work ≡ call .memory .work
+  pub output-after : m .output ≡ call .memory .output

@@ -1,0 +1,85 @@
+-- The definitions that compute mean what document 01 says.
+use mathlib.Core.Path.{_≡_, sym, _∙_}
+use mathlib.Core.Logic.{_↔_}
+use mathlib.Core.Bool.{Bool, true}
+use mathlib.Core.List.{List, [], _∷_}
+use Prim.Native.Nat.{ℕ}
+use native.Mathlib.Omega.{arith}
+use lib.Dec.{leb}
+use lib.ListN.{length}
+use Rattle.model.specs.Limits.{leastWork}
+use Rattle.model.specs.Edges.{Graph, Bounds, Small, edgeMemory?, standing}
+use Rattle.model.specs.Patterns.{keyed?, minRepeat}
+use Rattle.model.specs.Order.{counted}
+use Rattle.model.specs.Entries.{determined}
+use Rattle.model.proofs.Tests.{Tests, test-true, test-yields}
+use Rattle.model.proofs.Patterns.{test-keyed, min-repeat, min-repeat-unique, folded}
+use Rattle.model.proofs.Walks.{runs-spells, spells-runs}
+use Rattle.model.proofs.Order.{counted-sorted, counted-names}
+use Rattle.model.proofs.Levels.{state-zero, level-zero, level-iff}
+use Rattle.model.proofs.Search.{told, decides}
+use Rattle.model.proofs.Entries.{entries-in, entries-out, entries-rise}
+use Rattle.model.proofs.Query.{test-answers}
+use Rattle.model.proofs.Codes.{test-code}
+use Rattle.model.proofs.Memories.{test-edge-memory, test-index-memory}
+use Rattle.calls.specs.Checks.{vertices?, longest?, ends?, Check}
+use Rattle.calls.specs.Call.{Header, graphOf, Memory}
+use Rattle.calls.specs.Search.{searchRefusal, searchCall}
+use Rattle.calls.proofs.Checks.{header-good, bounded, test-ends}
+use Rattle.calls.proofs.Passing.{passing}
+use Rattle.demands.specs.Meaning.{Replies, GraphMeaning, Meaning}
+
+-- a test is true exactly if its statement holds
+exactly : {b : Bool} {P : Type 0} → Tests b P → (b ≡ true) ↔ P
+exactly t = (test-yields t, test-true t)
+
+graph-meaning : (g : Graph) → Bounds (g .vertices) (g .longest) → GraphMeaning g
+unfolding determined
+graph-meaning g b =
+    let small : Small g = record { vertices-small = b .vertices-most; longest-small = b .longest-most } in
+    record {
+      sorts = counted-sorted g;
+      names = counted-names g;
+      entries = λ e. (entries-out g (counted g) small, entries-in g (counted g) small);
+      rises = entries-rise g (counted g) small;
+      edge-memory = λ edges. exactly (test-edge-memory (g .vertices) (b .vertices-most) edges);
+      index-memory = λ index. exactly (test-index-memory (g .vertices) (b .vertices-most) (g .longest) (b .longest-most) index);
+      codes = λ number below. exactly (test-code (g .longest) number (b .longest-most) below);
+    }
+
+searches : (h : Header) (start destination : ℕ) (pattern : List ℕ) (limit : ℕ) (m : Memory) → searchRefusal h start destination pattern m ≡ 0
+    → Replies (graphOf h (standing (m .edges))) (minRepeat pattern) start destination limit (searchCall h start destination pattern limit m .reply)
+unfolding searchCall
+searches h start destination pattern limit m e =
+    let (v, (k, (_, (_, (ends, (keyed, _)))))) = passing checks tt (unfold searchRefusal in e) in
+    let b : Bounds (h .vertices) (h .longest) = bounded v k in
+    let (hs, ht) = test-yields (test-ends (h .vertices) start destination) ends in
+    let p = folded (test-yields (test-keyed (h .longest) pattern) keyed) .keyed in
+    let g = graphOf h (standing (m .edges)) in
+    rw e (record {
+      told = told g (minRepeat pattern) start destination limit;
+      decides = λ enough. decides g (minRepeat pattern) start destination (b .vertices-most) (p .long) hs ht limit enough (omega (arith, p .short, b .longest-most));
+    })
+  where
+    checks : List Check
+    checks =
+        (1, vertices? (h .vertices))
+        ∷ (2, longest? (h .longest))
+        ∷ (3, edgeMemory? (h .vertices) (m .edges))
+        ∷ (4, leb leastWork (length (m .work)))
+        ∷ (10, ends? (h .vertices) start destination)
+        ∷ (11, keyed? (h .longest) pattern)
+        ∷ []
+
+pub meaning : Meaning
+meaning =
+    record {
+      keyed = λ k l. exactly (test-keyed k l);
+      repeat = λ l m h. (min-repeat-unique l m h, λ e. rw (sym e) (min-repeat l h));
+      runs = λ g l s t. (runs-spells, λ (j, p). spells-runs j p);
+      graphs = λ g e. graph-meaning g (header-good (g .vertices) (g .longest) e);
+      answers = λ vertices index l s t. exactly (test-answers vertices index l s t);
+      level-zero = λ g l s z. (λ m. level-zero g l s z .0 m ∙ sym (state-zero s), λ e. level-zero g l s z .1 (e ∙ state-zero s));
+      level-next = λ g l s i z. level-iff g l s i z;
+      searches = searches;
+    }

@@ -1,0 +1,61 @@
+-- Meaning: document 01's own words and the definitions that compute. The demands and contracts speak of the latter; here each is tied to the
+-- sentence that it stands for, for every graph that checks 1 and 2 let pass.
+use mathlib.Core.Path.{_≡_}
+use mathlib.Core.Logic.{_↔_}
+use mathlib.Core.Bool.{true}
+use mathlib.Core.List.{List}
+use Prim.Native.Nat.{ℕ, suc, _≤_, _<_}
+use lib.ListN.{length}
+use Rattle.model.specs.Lists.{_∈_, Sorted, Rising, Padded}
+use Rattle.model.specs.Limits.{mostEdges, enoughLevels, hubUnit}
+use Rattle.model.specs.Edges.{Graph, OfEdge, edgeMemory?, standing}
+use Rattle.model.specs.Patterns.{times, Keyed, keyed?, MinRepeat, minRepeat}
+use Rattle.model.specs.Walks.{Spells, Runs}
+use Rattle.model.specs.Order.{weight, Before, Names, counted}
+use Rattle.model.specs.Levels.{state, level, Reached, Reply, Told, Decides}
+use Rattle.model.specs.Entries.{IsEntry, determined}
+use Rattle.model.specs.Query.{code?, Coded, OfEntry, indexMemory?, Answers, answers?}
+use Rattle.calls.specs.Checks.{headerRefusal}
+use Rattle.calls.specs.Call.{Header, graphOf, Memory}
+use Rattle.calls.specs.Search.{searchRefusal, searchCall}
+
+-- what an accepted plain check (level search) replies
+pub record Replies (g : Graph) (l : List ℕ) (s t limit : ℕ) (r : Reply) : Type 0 where
+  -- "Yes c: ..", "No c: ..", "If neither c is within the allowance, the reply is spent, with the allowance."
+  pub told : Told g l s t limit r
+  -- "An allowance of 1,025 always gives yes or no", and yes exactly if a walk runs the pattern
+  pub decides : enoughLevels ≤ limit → Decides g l s t r
+
+-- of a graph
+pub record GraphMeaning (g : Graph) : Type 0 where
+  -- "sorts places by (legs out + 1) × (legs in + 1), largest first, lower place first among equals"
+  pub sorts : Sorted (Before (weight g)) (counted g)
+  pub names : Names (g .vertices) (counted g)
+  -- "For every L .. and every s and t joined by a walk running L, .. The index has no other entries"; "Entries rise strictly"
+  pub entries : (e : ℕ) → (e ∈ determined g) ↔ IsEntry g (counted g) e
+  pub rises : Rising (determined g)
+  -- what check 3 lets pass: at most 1,024 slots, "rising legs of this layout then zeros"
+  pub edge-memory : (edges : List ℕ)
+      → (edgeMemory? (g .vertices) edges ≡ true) ↔ ((length edges ≤ mostEdges) × Padded (OfEdge (g .vertices)) edges)
+  -- and check 12: "rising entries then zeros", each code that of "a pattern of at most k that is its own minimum repeat"
+  pub index-memory : (index : List ℕ)
+      → (indexMemory? (g .vertices) (g .longest) index ≡ true) ↔ Padded (OfEntry (g .vertices) (g .longest)) index
+  pub codes : (number : ℕ) → number < hubUnit → (code? (g .longest) number ≡ true) ↔ Coded (g .longest) number
+
+pub record Meaning : Type 0 where
+  -- "A pattern is 1 to k colours."
+  pub keyed : (k : ℕ) (l : List ℕ) → (keyed? k l ≡ true) ↔ Keyed k l
+  -- "the shortest pattern which, written some whole number of times, gives it": the one computed, and no other
+  pub repeat : (l m : List ℕ) → 1 ≤ length l → MinRepeat l m ↔ (minRepeat l ≡ m)
+  -- "It runs pattern L if its colours spell L one or more whole times."
+  pub runs : (g : Graph) (l : List ℕ) (s t : ℕ) → Runs g l s t ↔ ((j : ℕ) × Spells g s (times (suc j) l) t)
+  -- every graph that checks 1 and 2 let pass
+  pub graphs : (g : Graph) → headerRefusal (g .vertices) (g .longest) ≡ 0 → GraphMeaning g
+  -- "yes if the out list of s has (t, L), or the in list of t has (s, L), or some hub stands with L in both"
+  pub answers : (vertices : ℕ) (index l : List ℕ) (s t : ℕ) → (answers? vertices index l s t ≡ true) ↔ Answers vertices index l s t
+  -- "level 0 is the pair (s, 0)"; "Level i+1 is every (place, colours of L used so far ..) that .. and that is in none of levels 1 to i"
+  pub level-zero : (g : Graph) (l : List ℕ) (s z : ℕ) → (z ∈ level g l s 0) ↔ (z ≡ state s 0)
+  pub level-next : (g : Graph) (l : List ℕ) (s i z : ℕ) → (z ∈ level g l s (suc i)) ↔ Reached g l s i z
+  -- the plain check, as the call replies
+  pub searches : (h : Header) (start destination : ℕ) (pattern : List ℕ) (limit : ℕ) (m : Memory) → searchRefusal h start destination pattern m ≡ 0
+      → Replies (graphOf h (standing (m .edges))) (minRepeat pattern) start destination limit (searchCall h start destination pattern limit m .reply)

@@ -1,0 +1,37 @@
+-- The worked list, by computation; the ledger's part by demand 3.
+use mathlib.Core.Path.{refl, sym, ap, _∙_}
+use Rattle.model.specs.Lists.{Bytes, any?, all?, keep, from, spread}
+use Rattle.model.specs.Edges.{edge?, zeros?, risingEdges?, edgeMemory?, standing, insertEdge}
+use Rattle.model.specs.Patterns.{times, keyed?, repeatFrom, minRepeat, own?, codeFrom, words, patterns}
+use Rattle.model.specs.Order.{weight, place, byWeight, counted, rank}
+use Rattle.model.specs.Levels.{states, leads?, led?, grow, stage, replyFrom, levelReply, runs?}
+use Rattle.model.specs.Entries.{stop?, allStops, earliest?, out?, in?, ofHub, ofOwner, ofSide, entries, determined}
+use Rattle.model.proofs.Tests.{test-all, test-lt}
+use Rattle.calls.specs.Checks.{firstRefusal}
+use Rattle.calls.specs.Change.{settle, openRefusal, openCall, insertRefusal, insertCall}
+use Rattle.calls.specs.Card.{edgesOf, risingTriples?, cardEdges?, readRefusal, readCall}
+use Rattle.demands.specs.Ledger.{openingNumber, Account}
+use Rattle.demands.specs.Station.{run}
+use Rattle.demands.specs.Demand3.{by-opening, Demand3}
+use Rattle.worked_examples.specs.Trials.{A, slotsA, cardA}
+use Rattle.worked_examples.specs.Example.{garbage, calls, Example}
+use Rattle.demands.proofs.Demand3.{demand3}
+
+pub bytesA : Bytes cardA
+unfolding cardA all?
+bytesA = (test-all (λ x. test-lt x 256) cardA) .yields tt
+
+-- the opening is one that the ledger accepts, so demand 3 speaks of the list
+accounted : Demand3 garbage (calls bytesA)
+unfolding openingNumber
+accounted = demand3 garbage _ _ by-opening refl
+
+pub example : Example bytesA
+unfolding A slotsA cardA run openCall openRefusal insertCall insertRefusal any? all? keep from spread edge? zeros? risingEdges? edgeMemory? standing insertEdge times keyed? repeatFrom minRepeat own? codeFrom words patterns weight place byWeight counted rank states leads? led? grow stage replyFrom levelReply runs? stop? allStops earliest? out? in? ofHub ofOwner ofSide entries determined firstRefusal settle edgesOf risingTriples? cardEdges? readRefusal readCall
+example =
+    record {
+      replies = refl;
+      edges = refl;
+      index = refl;
+      told = ap (λ (a : Account). a .replies) (sym (accounted .is)) ∙ sym (accounted .replies);
+    }
