@@ -7,7 +7,7 @@ ghost use mathlib.Core.List.{[]};
 ghost use lib.ListN.{length};
 ghost use Rattle.calls.specs.Call.{lent};
 ghost use Rattle.calls.specs.Query.{queryCall};
-ghost use Rattle.sort.specs.Order.{Distinct, Narrow, Sorts};
+ghost use Rattle.sort.specs.Order.{Distinct, FiveBytes, Sorts};
 ghost use Rattle.order.specs.Counting.{Countable, Counts};
 ghost use Rattle.build.specs.Build.{Buildable};
 ghost use Rattle.bench_c.specs.Bench.{BuildsNumber, answerNumber};
@@ -31,7 +31,7 @@ pub extern "C" fn bench_build(
     index: &mut [u64],
     work: &mut [u64],
 ) -> u64
-    requires { ⌜ Buildable vertices longest (now edges) (now order) (now index) (now work) ⌝ }
+    requires { ⌜ Buildable vertices longest (now edges) (now order) (length (now index)) (now work) ⌝ }
     ensures { λ r. ⌜
         BuildsNumber (record { vertices = vertices; longest = longest; edges = now (edges .entry) })
         (now (order .entry)) (now (index .entry)) (now (work .entry)) (now (index .exit)) (now (work .exit)) r
@@ -67,7 +67,7 @@ pub extern "C" fn bench_query(
 // The sort, as sort::sort.
 #[no_mangle]
 pub extern "C" fn bench_sort(staged: &mut [u64], sorted: &mut [u64])
-    requires { ⌜ (length (now staged) ≡ length (now sorted)) × (Distinct (now staged) × Narrow (now staged)) ⌝ }
+    requires { ⌜ (length (now staged) ≡ length (now sorted)) × (Distinct (now staged) × FiveBytes (now staged)) ⌝ }
     ensures { λ _. ⌜ Sorts (now (staged .entry)) (now (sorted .exit)) ⌝ }
 {
     sort::sort(staged, sorted);

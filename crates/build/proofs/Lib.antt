@@ -1,4 +1,3 @@
 pub mod Listing
 pub mod Staged
-pub mod Writing
 pub mod Building

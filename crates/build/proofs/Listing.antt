@@ -4,10 +4,10 @@ use mathlib.Core.Logic.{_↔_}
 use mathlib.Core.List.{List, map, Memᴰ·map, Memᴰ·of-map}
 use Prim.Native.Nat.{ℕ, _+_, _≤_, _<_}
 use native.Mathlib.Omega.{arith}
-use lib.ListN.{length, getD, take, drop, length-drop, length-map}
+use lib.ListN.{length, getD, drop, length-drop, length-map}
 use lib.Seq.{length-take-le, getD-take, getD-drop}
 use Rattle.model.specs.Lists.{_∈_, upTo, filled}
-use Rattle.model.specs.Limits.{leastWork, hubUnit}
+use Rattle.model.specs.Limits.{mostVertices, leastWork, hubUnit}
 use Rattle.model.specs.Edges.{Graph, Small}
 use Rattle.model.specs.Patterns.{code}
 use Rattle.model.specs.Order.{Names}
@@ -21,10 +21,10 @@ use Rattle.model.proofs.Entries.{entries-in, entries-out}
 use Rattle.model.proofs.Renumber.{entry-fields, entry-there, entry-back}
 use Rattle.model.proofs.Counting.{index-is, more-entries}
 use Rattle.sort.specs.Order.{Distinct, Sorts}
-use Rattle.output.specs.Output.{Translatable, Written}
+use Rattle.output.specs.Output.{Translatable, WritesIndex}
 use Rattle.output.proofs.Putting.{translate-once}
 use Rattle.staging.specs.Stage.{staged, Adds, Over}
-use Rattle.build.specs.Parts.{stagedList}
+use Rattle.build.specs.Staging.{stagedList}
 
 -- ---- the list has each staged number once
 
@@ -35,30 +35,30 @@ module _ (w : List ℕ) (r : ℕ) (room : leastWork + r ≤ length w) where
   pub staged-at : (i : ℕ) → i < r → getD (stagedList w r) i 0 ≡ staged w i
   staged-at i h = getD-take r (drop leastWork w) i 0 h ∙ getD-drop leastWork w i 0
 
-module _ {w w′ : List ℕ} {r : ℕ} {Q : ℕ → Type 0} (a : Adds w 0 w′ r Q) (room : leastWork + r ≤ length w′) where
-  pub staged-distinct : Distinct (stagedList w′ r)
+module _ {w : List ℕ} {r : ℕ} {Q : ℕ → Type 0} (a : Adds w 0 r Q) (room : leastWork + r ≤ length w) where
+  pub staged-distinct : Distinct (stagedList w r)
   staged-distinct = record {
     once = λ i j h k e.
-        let b : j < r = omega (arith, staged-length w′ r room) in
+        let b : j < r = omega (arith, staged-length w r room) in
         let c : i < r = omega arith in
-        a .once i j (omega arith) h b (sym (staged-at w′ r room i c) ∙ e ∙ staged-at w′ r room j b);
+        a .different .once i j (omega arith) h b (sym (staged-at w r room i c) ∙ e ∙ staged-at w r room j b);
   }
 
-  pub staged-in : (x : ℕ) → (x ∈ stagedList w′ r) ↔ Q x
+  pub staged-in : (x : ℕ) → (x ∈ stagedList w r) ↔ Q x
   staged-in x = (there, back)
     where
-      there : x ∈ stagedList w′ r → Q x
+      there : x ∈ stagedList w r → Q x
       there m =
           let k = in-getD m in
-          let b : k .i < r = omega (arith, k .inside, staged-length w′ r room) in
-          let e : staged w′ (k .i) ≡ x = sym (staged-at w′ r room (k .i) b) ∙ k .is in
-          rw e at (a .only (k .i) (omega arith) b)
+          let b : k .i < r = omega (arith, k .inside, staged-length w r room) in
+          let e : staged w (k .i) ≡ x = sym (staged-at w r room (k .i) b) ∙ k .is in
+          rw e at (a .different .only (k .i) (omega arith) b)
 
-      back : Q x → x ∈ stagedList w′ r
+      back : Q x → x ∈ stagedList w r
       back q =
-          let (i, (l, (h, e))) = a .all x q in
-          let z : getD (stagedList w′ r) i 0 ≡ x = staged-at w′ r room i h ∙ e in
-          rw z at (getD-in (stagedList w′ r) i (omega (arith, staged-length w′ r room)))
+          let s = a .all x q in
+          let z : getD (stagedList w r) (s .i) 0 ≡ x = staged-at w r room (s .i) (s .high) ∙ s .is in
+          rw z at (getD-in (stagedList w r) (s .i) (omega (arith, s .high, staged-length w r room)))
 
 -- ---- the fields of an entry of a graph
 
@@ -67,7 +67,7 @@ pub record Fields (n x : ℕ) : Type 0 where
   pub owner-small : ownerOf x < n
   pub hub-small : hubOf x < n
 
-fields-of : {n x : ℕ} (side a b c : ℕ) → n ≤ 256 → side < 2 → a < n → b < n → c < hubUnit → x ≡ entryOf side a b c → Fields n x
+fields-of : {n x : ℕ} (side a b c : ℕ) → n ≤ mostVertices → side < 2 → a < n → b < n → c < hubUnit → x ≡ entryOf side a b c → Fields n x
 fields-of {n} side a b c small hs ha hb hc e =
     let (p, q, r, t) = entry-fields side a b c (omega arith) (omega arith) hc in
     rw e (record { side-small = rw p hs; owner-small = rw q ha; hub-small = rw r hb })
@@ -106,43 +106,43 @@ module _ {n : ℕ} (k : ℕ) {order edges edges′ : List ℕ} (names : Names n 
         translate-once (translatable (entries h (upTo n)) (λ z m. entries-out h (upTo n) small′ m)) names
         x y (entries-in h (upTo n) small′ p) (entries-in h (upTo n) small′ q)
 
-    module _ {w w′ : List ℕ} {r : ℕ} (a : Adds w 0 w′ r (IsEntry h (upTo n))) (room : leastWork + r ≤ length w′) where
-      pub staged-translatable : Translatable order (stagedList w′ r)
-      staged-translatable = translatable (stagedList w′ r) (λ x m. staged-in a room x .0 m)
+    module _ {w : List ℕ} {r : ℕ} (a : Adds w 0 r (IsEntry h (upTo n))) (room : leastWork + r ≤ length w) where
+      pub staged-translatable : Translatable order (stagedList w r)
+      staged-translatable = translatable (stagedList w r) (λ x m. staged-in a room x .0 m)
 
       -- the staged entries put back are the entries of the graph
-      pub put-back : (x : ℕ) → (x ∈ map (translate order) (stagedList w′ r)) ↔ IsEntry g order x
+      pub put-back : (x : ℕ) → (x ∈ map (translate order) (stagedList w r)) ↔ IsEntry g order x
       put-back x = (there, back)
         where
-          there : x ∈ map (translate order) (stagedList w′ r) → IsEntry g order x
+          there : x ∈ map (translate order) (stagedList w r) → IsEntry g order x
           there m =
-              let (y, i, q) = Memᴰ·of-map (translate order) (stagedList w′ r) m in
+              let (y, i, q) = Memᴰ·of-map (translate order) (stagedList w r) m in
               rw q at (entry-back n k order edges edges′ names e small (staged-in a room y .0 i))
 
-          back : IsEntry g order x → x ∈ map (translate order) (stagedList w′ r)
+          back : IsEntry g order x → x ∈ map (translate order) (stagedList w r)
           back p =
               let (y, i, q) = entry-there n k order edges edges′ names e small p in
               rw q (Memᴰ·map (translate order) (staged-in a room y .1 i))
 
-      module _ {sorted : List ℕ} (s : Sorts (map (translate order) (stagedList w′ r)) sorted) where
+      module _ {sorted : List ℕ} (s : Sorts (map (translate order) (stagedList w r)) sorted) where
         pub listing : sorted ≡ entries g order
         listing = index-is g order small sorted (s .rises) (λ x m. put-back x .0 (s .same x .0 m)) (λ x p. s .same x .1 (put-back x .1 p))
 
         pub listing-length : r ≡ length (entries g order)
-        listing-length = sym (staged-length w′ r room) ∙ sym (length-map (stagedList w′ r) (translate order)) ∙ sym (s .size) ∙ ap length listing
+        listing-length = sym (staged-length w r room) ∙ sym (length-map (stagedList w r) (translate order)) ∙ sym (s .size) ∙ ap length listing
 
       -- index memory then
-      pub written-listing : {index index′ : List ℕ} → Written (map (translate order) (stagedList w′ r)) index index′
+      pub written-listing : {index index′ : List ℕ} → WritesIndex (map (translate order) (stagedList w r)) index index′
           → index′ ≡ filled (length index) (entries g order)
       written-listing {index} i = i .is ∙ ap (filled (length index)) (listing (i .sorts))
 
     -- the slots are full and an entry is left: there are more entries than slots
-    pub too-many : {w w′ : List ℕ} {slots : ℕ} → Over w 0 w′ slots (IsEntry h (upTo n)) → slots < length (entries g order)
-    too-many {w′ = w′} {slots = slots} o = more-entries g order small slots (λ i. translate order (staged w′ i)) (translate order (o .extra))
+    pub too-many : {w : List ℕ} {slots : ℕ} → Over w 0 slots (IsEntry h (upTo n)) → slots < length (entries g order)
+    too-many {w} {slots} o = more-entries g order small slots (λ i. translate order (staged w i)) (translate order (o .extra))
         (λ i b. entry-back n k order edges edges′ names e small (at i b))
         (entry-back n k order edges edges′ names e small (o .is))
-        (λ i j b c q. o .once i j (omega arith) b c (apart _ _ (at i (omega arith)) (at j c) q))
-        (λ i b q. o .fresh i (omega arith) b (apart _ _ (at i b) (o .is) q))
+        (λ i j b c q. o .different .once i j (omega arith) b c (apart _ _ (at i (omega arith)) (at j c) q))
+        (λ i b q. o .fresh (record { i = i; low = omega arith; high = b; is = apart _ _ (at i b) (o .is) q }))
       where
-        at : (i : ℕ) → i < slots → IsEntry h (upTo n) (staged w′ i)
-        at i b = o .only i (omega arith) b
+        at : (i : ℕ) → i < slots → IsEntry h (upTo n) (staged w i)
+        at i b = o .different .only i (omega arith) b

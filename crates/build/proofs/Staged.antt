@@ -1,80 +1,72 @@
 -- The entries of the renumbered graph, staged.
-use mathlib.Core.Path.{_≡_, refl, _∙_}
-use mathlib.Core.Bool.{true}
-use mathlib.Core.List.{List, [], _∷_, List·Memᴰ·not-nil}
-use mathlib.Core.Logic.{_⊎_, inl, inr, ⊎-elim, _↔_}
-use Prim.Native.Nat.{ℕ, _+_, _/_, _≤_, _<_}
+use mathlib.Core.Path.{refl}
+use mathlib.Core.List.{List, [], List·Memᴰ·not-nil}
+use mathlib.Core.Logic.{_↔_, Iff·symm}
+use Prim.Native.Nat.{ℕ, _≤_, _<_}
 use native.Mathlib.Omega.{arith}
-use lib.ListN.{length, getD, take}
+use lib.ListN.{length, take, replicate}
 use Rattle.model.specs.Lists.{_∈_, upTo}
-use Rattle.model.specs.Limits.{mostVertices, mostLabel, mostLongest, leastWork}
-use Rattle.model.specs.Edges.{edge?, fromOf, labelOf}
+use Rattle.model.specs.Limits.{mostVertices, mostLabel, mostLongest}
 use Rattle.model.specs.Entries.{IsEntry}
 use Rattle.model.specs.Suffixes.{Beyond}
 use Rattle.model.proofs.Tests.{test-yields}
 use Rattle.model.proofs.Edges.{test-edge}
 use Rattle.edges.specs.Slots.{Starts}
 use Rattle.renumber.specs.Ranked.{Renumbered}
-use Rattle.rows.specs.Room.{rootRow}
-use Rattle.steps.specs.Steps.{Ready}
-use Rattle.clearing.specs.Clearing.{Rooted}
-use Rattle.staging.proofs.Adding.{outcome-as, outcome-since}
-use Rattle.endings.specs.Endings.{Picks, wordOf, Node, Noded}
-use Rattle.endings.proofs.Picks.{entries-beyond}
-use Rattle.build.specs.Build.{Saved}
-use Rattle.build.specs.Parts.{Stageable, Stages}
+use Rattle.rows.specs.Region.{savedRows, rootRow}
+use Rattle.rows.specs.Rows.{InRows, Becomes}
+use Rattle.steps.specs.Steps.{Slotted}
+use Rattle.staging.specs.Stage.{Stages}
+use Rattle.staging.proofs.Adding.{stages-as, stages-since, stages-within}
+use Rattle.suffixes.specs.Suffixes.{PatternEntry, wordOf, baseOf, NodeStageable}
+use Rattle.suffixes.proofs.Entries.{entries-beyond}
+use Rattle.build.specs.Build.{Buildable}
+use Rattle.build.specs.Staging.{GraphStages}
 
-module _ {vertices longest : ℕ} {edges order w : List ℕ} {room : ℕ} (s : Stageable vertices longest edges order w room)
+-- no label is chosen
+abbrev blank : List ℕ
+blank = replicate mostLongest 0
+
+module _ {vertices longest : ℕ} {edges order w : List ℕ} {room : ℕ} (s : Buildable vertices longest edges order room w)
     {result : List ℕ} (q : Renumbered vertices edges order result) where
   abbrev renumbered : List ℕ
   renumbered = take (length edges) result
 
-  ready : {slots : List ℕ} → Starts renumbered slots → Ready renumbered slots
-  ready h =
+  slotted : {slots : List ℕ} → Starts renumbered slots → Slotted renumbered slots
+  slotted h =
       record {
         edged = record {
           rises = q .rises;
-          from-small = λ x m. omega (arith, test-yields (test-edge vertices x) (q .valid x m) .from, s .ordered .named .vertices-small);
+          from-small = λ x m. omega (arith, test-yields (test-edge vertices x) (q .valid x m) .from, s .bounds .vertices-most);
           labelled = λ x m. let e = test-yields (test-edge vertices x) (q .valid x m) in (e .label-low, e .label-high);
         };
         starts = h;
       }
 
-  module _ {slots w₁ : List ℕ} (h : Starts renumbered slots) (r : Rooted w 256 w₁) where
+  module _ {slots w₁ : List ℕ} (h : Starts renumbered slots) (r : Becomes w w₁ rootRow (λ k. k < mostVertices)) where
     -- with any bound on the patterns' length
-    pub node-ready : {k : ℕ} → 1 ≤ k → k ≤ mostLongest → Node renumbered slots (0 ∷ 0 ∷ 0 ∷ 0 ∷ []) w₁ 0 rootRow k room 0
-    node-ready more most =
+    pub node-stageable : {k : ℕ} → 1 ≤ k → k ≤ mostLongest → NodeStageable renumbered slots blank w₁ 0 rootRow k room 0
+    node-stageable more most =
         record {
-          ready = ready h;
+          slotted = slotted h;
           chosen = record { size = refl; more = more; most = most; labels = none };
-          sources = record { long = omega (arith, r .keeps .len, s .there); all = λ i a t l. absurd (omega arith) };
-          sourced = record {
-            least = omega arith;
-            most = omega arith;
-            all = λ a t l trail. r .all a l;
-          };
-          before = record { lies = inr refl };
-          quiet = r .quiet;
-          stocked = record { count = omega arith; there = omega (arith, r .keeps .len, s .there) };
+          sources = record { long = omega (arith, r .keeps .len, s .work); all = λ i a t l. absurd (omega arith) };
+          least = omega arith;
+          before = omega arith;
+          spelled = λ a t l trail. r .row .all a l l;
+          count = omega arith;
+          there = omega (arith, r .keeps .len, s .work);
         }
       where
-        none : (c : ℕ) → c ∈ wordOf (0 ∷ 0 ∷ 0 ∷ 0 ∷ []) 0 → (1 ≤ c) × (c ≤ mostLabel)
+        none : (c : ℕ) → c ∈ wordOf blank 0 → (1 ≤ c) × (c ≤ mostLabel)
         none c m = absurd (List·Memᴰ·not-nil m)
 
-    pub staged-all : {w₂ : List ℕ} {n : ℕ} → Noded renumbered (0 ∷ 0 ∷ 0 ∷ 0 ∷ []) w₁ 0 longest room 0 w₂ n → Stages vertices longest edges order w room w₂ n
-    staged-all {w₂} {n} v =
-        record {
-          edges′ = renumbered;
-          renumbers = q .renumbers;
-          saved = record {
-            len = v .held .len ∙ r .keeps .len;
-            same = λ k l m. v .held .lower k (omega arith) (omega arith) (omega arith) ∙ r .keeps .same k (⊎-elim (λ z. omega arith) (λ z. omega arith));
-          };
-          outcome = outcome-since
-              (outcome-as (v .outcome) (λ e. same e .1) (λ e. same e .0))
-              (r .keeps .len)
-              (λ i l. r .keeps .same i (⊎-elim (λ z. omega arith) (λ z. omega arith)));
-        }
+    pub graph-stages : {w₂ : List ℕ} {n : ℕ} → Stages w₁ (InRows savedRows (baseOf 0)) (Beyond longest (PatternEntry renumbered) (wordOf blank 0)) room 0 w₂ n
+        → GraphStages vertices longest edges order w room w₂ n
+    graph-stages {w₂} {n} v = record { edges′ = renumbered; renumbers = q .renumbers; stages = stages-since whole (r .keeps) (λ k x e. omega (arith, x .most)) (λ k l e. omega arith) }
       where
-        same : (e : ℕ) → IsEntry (record { vertices = vertices; longest = longest; edges = renumbered }) (upTo vertices) e ↔ Beyond longest (Picks renumbered) [] e
-        same = entries-beyond vertices longest renumbered (s .ordered .named .vertices-small) (q .valid)
+        same : (e : ℕ) → IsEntry (record { vertices = vertices; longest = longest; edges = renumbered }) (upTo vertices) e ↔ Beyond longest (PatternEntry renumbered) [] e
+        same = entries-beyond vertices longest renumbered (s .bounds .vertices-most) (q .valid)
+
+        whole : Stages w₁ (InRows savedRows rootRow) (IsEntry (record { vertices = vertices; longest = longest; edges = renumbered }) (upTo vertices)) room 0 w₂ n
+        whole = stages-within (stages-as v (λ e. Iff·symm (same e))) (λ k x. record { least = x .least; most = omega (arith, x .most) })

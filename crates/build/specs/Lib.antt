@@ -1,2 +1,2 @@
 pub mod Build
-pub mod Parts
+pub mod Staging

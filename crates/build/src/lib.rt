@@ -1,7 +1,10 @@
 // Building the index of a graph. The vertices are numbered anew by their rank in an access order, so that earlier is lower; the entries
 // are staged in work memory, put back to vertices, and written to index memory in rising order.
+use model::LEAST_WORK;
+use model::MOST_LONGEST;
+ghost use lib.ListN.{length};
 ghost use Rattle.build.specs.Build.{Buildable, Builds};
-ghost use Rattle.build.specs.Parts.{Stageable, Stages, Writable, Writes};
+ghost use Rattle.build.specs.Staging.{GraphStages};
 
 // How many entries the index has, or that they do not fit.
 pub enum Built {
@@ -18,17 +21,17 @@ fn stage(
     w: &mut [u64],
     room: usize,
 ) -> usize
-    requires { ⌜ Stageable vertices longest (now edges) (now order) (now w) room ⌝ }
-    ensures { λ r. ⌜ Stages vertices longest (now (edges .entry)) (now (order .entry)) (now (w .entry)) room (now (w .exit)) r ⌝ }
+    requires { ⌜ Buildable vertices longest (now edges) (now order) room (now w) ⌝ }
+    ensures { λ r. ⌜ GraphStages vertices longest (now (edges .entry)) (now (order .entry)) (now (w .entry)) room (now (w .exit)) r ⌝ }
 {
     let renumbered = renumber::renumber(vertices, edges, order);
     let m = edges.len();
     let slots = edges::first_slots(vertices, &renumbered[..m]);
-    clearing::root(w, 256);
-    endings::node(
+    rows::fill(w, rows::ROOT);
+    suffixes::node(
         &renumbered[..m],
         &slots,
-        [0u8; 4],
+        [0u8; MOST_LONGEST],
         0,
         w,
         rows::ROOT,
@@ -38,17 +41,8 @@ fn stage(
     )
 }
 
-// Puts the n staged entries back to vertices, and writes them to index memory.
-fn write_out(order: &[u8], w: &mut [u64], n: usize, index: &mut [u64])
-    requires { ⌜ Writable (now order) (now w) (now index) n ⌝ }
-    ensures { λ _. ⌜ Writes (now (order .entry)) (now (w .entry)) (now (index .entry)) n (now (w .exit)) (now (index .exit)) ⌝ }
-{
-    output::put_back(order, &mut w[4096..4096 + n]);
-    output::write(&mut w[4096..4096 + n], index);
-}
-
 // Fills index memory with the entries that the graph determines with the order, if they fit; else leaves it as it was. Work memory holds
-// anything afterwards, but for the numbers in which edge memory is saved.
+// anything afterwards, except that the numbers in which edge memory is saved are kept.
 pub fn build(
     vertices: u32,
     longest: u32,
@@ -57,7 +51,7 @@ pub fn build(
     index: &mut [u64],
     w: &mut [u64],
 ) -> Built
-    requires { ⌜ Buildable vertices longest (now edges) (now order) (now index) (now w) ⌝ }
+    requires { ⌜ Buildable vertices longest (now edges) (now order) (length (now index)) (now w) ⌝ }
     ensures { λ r. ⌜
         Builds (record { vertices = vertices; longest = longest; edges = now (edges .entry) })
         (now (order .entry)) (now (index .entry)) (now (w .entry)) (now (index .exit)) (now (w .exit)) r
@@ -69,6 +63,6 @@ pub fn build(
         return Built::TooMany;
     }
     let n = vertices as usize;
-    write_out(&order[..n], w, count, index);
+    output::write(&order[..n], &mut w[LEAST_WORK..LEAST_WORK + count], index);
     Built::Entries(count)
 }

@@ -10,7 +10,7 @@ use Rattle.model.specs.Lists.{_∈_, Rising, filled}
 use Rattle.model.specs.Limits.{mostEdges, leastWork}
 use Rattle.model.specs.Edges.{edge?, Bounds}
 use Rattle.model.proofs.Memory.{length-filled}
-use Rattle.rows.specs.Room.{savedNumbers}
+use Rattle.rows.specs.Region.{savedNumbers}
 use Rattle.calls.specs.Call.{Header, Memory, lent, Meets}
 use Rattle.calls.specs.Change.{answers, settle}
 use Rattle.calls.specs.Card.{noRecord}
@@ -51,9 +51,7 @@ module _ {h : Header} {wanted : List ℕ} {m : Memory} {n : ℕ} {edges work : L
   pub settleable : Settleable h n edges (m .index) work
   settleable =
       record {
-        vertices-most = w .header .vertices-most;
-        longest-least = w .header .longest-least;
-        longest-most = w .header .longest-most;
+        bounds = w .header;
         few = omega (arith, long, w .few);
         fits = omega (arith, long, w .count, w .fits);
         zeros = rw (long, front) (t .edges-are);

@@ -1,5 +1,5 @@
 pub mod Plus
 pub mod Sums
-pub mod Apart
+pub mod Taking
 pub mod Looked
-pub mod Upto
+pub mod Closing

@@ -1,4 +1,4 @@
--- A sum falls where one of its terms falls and none rises.
+-- A sum falls if one of its terms falls and none rises.
 use Prim.Native.Nat.{ℕ, zero, suc, _+_, _≤_, _<_}
 use native.Mathlib.Nat.{le-refl}
 use native.Mathlib.Omega.{arith}

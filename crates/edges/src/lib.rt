@@ -15,7 +15,7 @@ ghost use Rattle.edges.specs.Slots.{Under, Skipped, Starts};
 ghost use Rattle.edges.specs.Memory.{scanOf, findOf, Insertable, Removable, Narrow};
 
 // How many numbers the label's field of an edge number has room for.
-const LABELS: u32 = FROM_UNIT / LABEL_UNIT;
+pub const LABELS: u32 = FROM_UNIT / LABEL_UNIT;
 
 const MOST_LABEL: u32 = model::MOST_LABEL as u32;
 

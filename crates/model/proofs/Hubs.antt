@@ -11,10 +11,9 @@ use Rattle.model.specs.Lists.{upTo, from}
 use Rattle.model.specs.Edges.{Graph}
 use Rattle.model.specs.Patterns.{Pattern, code}
 use Rattle.model.specs.Walks.{Spells, here, edge, Runs, once, more, Stop, Between}
-use Rattle.model.specs.Order.{rank, Names}
+use Rattle.model.specs.Order.{rank}
 use Rattle.model.specs.Entries.{Earliest, outEntry, inEntry, IsEntry}
-use Rattle.model.specs.Hubs.{Picked}
-use Rattle.model.proofs.Lists.{up-to, below, rising-from, sorted-imp}
+use Rattle.model.specs.Hubs.{Picked, EntryBy}
 use Rattle.model.proofs.Walks.{stop-iff, stop-start, stop-end, runs-to}
 use Rattle.model.proofs.Order.{rank-here, rank-there}
 
@@ -82,22 +81,19 @@ rank-from a (suc n) v h k = ⊎-elim
 pub rank-own : (n v : ℕ) → v < n → rank (upTo n) v ≡ v
 rank-own n v h = omega (arith, rank-from 0 n v (omega arith) (omega arith))
 
-pub own-names : (n : ℕ) → Names n (upTo n)
-own-names n = record { each = λ v h. up-to h; only = λ v m. below m; once = sorted-imp (λ a b h e. omega arith) (rising-from 0 n) }
-
-pub picked-as : {R R′ : ℕ → ℕ → Type 0} {side c e : ℕ} → ((a b : ℕ) → R a b → R′ a b) → ((a b : ℕ) → R′ a b → R a b) → Picked R side c e → Picked R′ side c e
-picked-as f b p = record {
+pub picked-as : {R S : ℕ → ℕ → Type 0} {side c e : ℕ} → ((a b : ℕ) → R a b ↔ S a b) → Picked R side c e → Picked S side c e
+picked-as f p = record {
   hub = p .hub;
   owner = p .owner;
-  related = f _ _ (p .related);
+  related = f _ _ .0 (p .related);
   late = p .late;
-  alone = λ v h i j. p .alone v h (b _ _ i) (b _ _ j);
+  alone = λ v h i j. p .alone v h (f _ _ .1 i) (f _ _ .1 j);
   is = p .is;
 }
 
--- the hub's relation of each side: on side 0 walks from the owner to the hub, on side 1 from the hub to the owner
-abbrev pub Back : Graph → List ℕ → ℕ → ℕ → Type 0
-Back g l u y = Runs g l y u
+pub entry-by-as : {R S : ℕ → ℕ → Type 0} {c e : ℕ} → ((a b : ℕ) → R a b ↔ S a b) → EntryBy R c e → EntryBy S c e
+entry-by-as f (EntryBy.out p) = EntryBy.out (picked-as (λ a b. f b a) p)
+entry-by-as f (EntryBy.into p) = EntryBy.into (picked-as f p)
 
 module _ (g : Graph) (l : List ℕ) (full : 1 ≤ length l) where
   own-rank : {v : ℕ} → v < g .vertices → rank (upTo (g .vertices)) v ≡ v
@@ -110,16 +106,16 @@ module _ (g : Graph) (l : List ℕ) (full : 1 ≤ length l) where
   geq : {a b : ℕ} → a < g .vertices → b < g .vertices → rank (upTo (g .vertices)) a ≤ rank (upTo (g .vertices)) b → a ≤ b
   geq h k q = rw (own-rank h, own-rank k) at q
 
-  pub pattern-picked : {e : ℕ} → OfPattern g (upTo (g .vertices)) l e ↔ (Picked (Back g l) 0 (code l) e ⊎ Picked (Runs g l) 1 (code l) e)
-  pattern-picked {e} = (there, back)
+  pub pattern-by : {e : ℕ} → OfPattern g (upTo (g .vertices)) l e ↔ EntryBy (Runs g l) (code l) e
+  pattern-by {e} = (there, back)
     where
-      there : OfPattern g (upTo (g .vertices)) l e → Picked (Back g l) 0 (code l) e ⊎ Picked (Runs g l) 1 (code l) e
+      there : OfPattern g (upTo (g .vertices)) l e → EntryBy (Runs g l) (code l) e
       there (OfPattern.out s t hs ht h k) =
           let (r, a, f) = earliest-end .0 h in
-          inl (record { hub = t; owner = s; related = r; late = omega (arith, geq ht hs a); alone = λ v b p q. omega (arith, geq ht (runs-from full p) (f v q p)); is = k })
+          EntryBy.out (record { hub = t; owner = s; related = r; late = omega (arith, geq ht hs a); alone = λ v b p q. omega (arith, geq ht (runs-from full p) (f v q p)); is = k })
       there (OfPattern.into s t hs ht h n k) =
           let (r, a, f) = earliest-start .0 h in
-          inr (record { hub = s; owner = t; related = r; late = after (geq hs ht a); alone = λ v b p q. omega (arith, geq hs (runs-to p hs) (f v p q)); is = k })
+          EntryBy.into (record { hub = s; owner = t; related = r; late = after (geq hs ht a); alone = λ v b p q. omega (arith, geq hs (runs-to p hs) (f v p q)); is = k })
         where
           after : s ≤ t → s + 1 ≤ t
           after h = ⊎-elim (λ e. absurd (n e)) (λ b. omega arith) (eq-or-lt-of-le h)
@@ -128,13 +124,13 @@ module _ (g : Graph) (l : List ℕ) (full : 1 ≤ length l) where
       not-below : {u v : ℕ} → u < g .vertices → v < g .vertices → (v < u → ⊥) → rank (upTo (g .vertices)) u ≤ rank (upTo (g .vertices)) v
       not-below {u} {v} hu hv n = leq hu hv (elim (decLt v u) [ yes b ↦ absurd (n b) | no b ↦ omega arith ])
 
-      back : Picked (Back g l) 0 (code l) e ⊎ Picked (Runs g l) 1 (code l) e → OfPattern g (upTo (g .vertices)) l e
-      back (inl p) =
+      back : EntryBy (Runs g l) (code l) e → OfPattern g (upTo (g .vertices)) l e
+      back (EntryBy.out p) =
           let hs = runs-from full (p .related) in
           let ht = runs-to (p .related) hs in
           OfPattern.out (p .owner) (p .hub) hs ht
           (earliest-end .1 (p .related, leq ht hs (omega (arith, p .late)), λ v i j. not-below ht (runs-from full j) (λ b. p .alone v b j i))) (p .is)
-      back (inr p) =
+      back (EntryBy.into p) =
           let hs = runs-from full (p .related) in
           let ht = runs-to (p .related) hs in
           OfPattern.into (p .hub) (p .owner) hs ht

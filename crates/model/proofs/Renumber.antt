@@ -7,7 +7,7 @@ use Prim.Native.Nat.{ℕ, _≤_, _<_}
 use native.Mathlib.Omega.{arith}
 use lib.ListN.{getD}
 use Rattle.model.specs.Lists.{_∈_, upTo}
-use Rattle.model.specs.Limits.{hubUnit, mostLabel}
+use Rattle.model.specs.Limits.{mostVertices, mostLabel, hubUnit}
 use Rattle.model.specs.Edges.{Graph, Small}
 use Rattle.model.specs.Patterns.{Keyed, code}
 use Rattle.model.specs.Walks.{Spells, here, edge, Runs, once, more, Stop, Between}
@@ -21,11 +21,11 @@ use Rattle.model.proofs.Ranks.{rank-at, rank-small, vertex-small, at-ra
 use Rattle.model.proofs.Hubs.{rank-own}
 
 -- the fields of an entry number
-pub entry-fields : (side a b c : ℕ) → a < 256 → b < 256 → c < hubUnit
+pub entry-fields : (side a b c : ℕ) → a < mostVertices → b < mostVertices → c < hubUnit
     → (sideOf (entryOf side a b c) ≡ side) × (ownerOf (entryOf side a b c) ≡ a) × (hubOf (entryOf side a b c) ≡ b) × (codeOf (entryOf side a b c) ≡ c)
 entry-fields side a b c ha hb hc = (omega arith, omega arith, omega arith, omega arith)
 
-pub translate-entry : (order : List ℕ) (side a b c : ℕ) → a < 256 → b < 256 → c < hubUnit
+pub translate-entry : (order : List ℕ) (side a b c : ℕ) → a < mostVertices → b < mostVertices → c < hubUnit
     → translate order (entryOf side a b c) ≡ entryOf side (getD order a 0) (getD order b 0) c
 translate-entry order side a b c ha hb hc = let (p, q, r, t) = entry-fields side a b c ha hb hc in rw (p, q, r, t) refl
 
@@ -102,7 +102,7 @@ module _ (n k : ℕ) (order edges edges′ : List ℕ) (names : Names n order) (
     }
 
   module _ (small : Small g) where
-    bound : {v : ℕ} → v < n → v < 256
+    bound : {v : ℕ} → v < n → v < mostVertices
     bound b = omega (arith, small .vertices-small)
 
     same : {v : ℕ} → v < n → o (r v) ≡ v

@@ -1,4 +1,4 @@
--- Patterns parted by their endings: what holds of patterns with one label before a word, and of those with more.
+-- Patterns parted by their suffixes: what holds of patterns with one label before a word, and of those with more.
 use mathlib.Core.Path.{_≡_, refl, sym, ap, subst, _∙_}
 use mathlib.Core.Logic.{_⊎_, inl, inr, ⊎-elim, _↔_}
 use mathlib.Core.List.{List, [], _∷_, _++_, append-assoc, List·Memᴰ·head, Memᴰ·append-right}
@@ -40,15 +40,15 @@ ends (x ∷ l) = go (ends l)
     go empty = last [] x
     go (last v c) = last (x ∷ v) c
 
--- a label of a pattern is 1 to 8
+-- a label of a pattern is one
 labelled : {k : ℕ} (v : List ℕ) (c : ℕ) (w : List ℕ) → Pattern k (v ++ (c ∷ w)) → (1 ≤ c) × (c ≤ mostLabel)
 labelled v c w p = p .keyed .labels c (Memᴰ·append-right v (List·Memᴰ·head refl))
 
 module _ {k : ℕ} {F : List ℕ → ℕ → Type 0} where
-  pub beyond-parts : (w : List ℕ) (e : ℕ) → (Some 8 (Leaf k F w) e ⊎ Some 8 (Branch k F w) e) ↔ Beyond k F w e
+  pub beyond-parts : (w : List ℕ) (e : ℕ) → (Some mostLabel (Leaf k F w) e ⊎ Some mostLabel (Branch k F w) e) ↔ Beyond k F w e
   beyond-parts w e = (back, λ b. there (ends (b .front)) (b .label) (b .within))
     where
-      there : {v : List ℕ} → Ends v → (c : ℕ) → With k F (v ++ (c ∷ w)) e → Some 8 (Leaf k F w) e ⊎ Some 8 (Branch k F w) e
+      there : {v : List ℕ} → Ends v → (c : ℕ) → With k F (v ++ (c ∷ w)) e → Some mostLabel (Leaf k F w) e ⊎ Some mostLabel (Branch k F w) e
       there empty zero p = absurd (omega (arith, labelled [] 0 w (p .pattern)))
       there empty (suc c) p = inl (record { which = c; small = omega (arith, labelled [] (suc c) w (p .pattern)); holds = p })
       there (last v d) zero p = absurd (omega (arith, labelled (v ++ (d ∷ [])) 0 w (p .pattern)))
@@ -58,7 +58,7 @@ module _ {k : ℕ} {F : List ℕ → ℕ → Type 0} where
         holds = record { front = v; label = d; within = rw (append-assoc v (d ∷ []) (suc c ∷ w)) at p };
       })
 
-      back : Some 8 (Leaf k F w) e ⊎ Some 8 (Branch k F w) e → Beyond k F w e
+      back : Some mostLabel (Leaf k F w) e ⊎ Some mostLabel (Branch k F w) e → Beyond k F w e
       back (inl s) = record { front = []; label = suc (s .which); within = s .holds }
       back (inr s) = record {
         front = s .holds .front ++ (s .holds .label ∷ []);
@@ -78,16 +78,16 @@ module _ {k : ℕ} {F : List ℕ → ℕ → Type 0} where
   pub beyond-long : (w : List ℕ) (e : ℕ) → k ≤ length w → ¬ Beyond k F w e
   beyond-long w e h b = omega (arith, b .within .pattern .keyed .short, length-append (b .front) (b .label ∷ w))
 
-  -- where F fails of every pattern with this ending, nothing is beyond it
+  -- if F fails of every pattern with this suffix, nothing is beyond it
   pub beyond-none : (w : List ℕ) → ((v : List ℕ) (e : ℕ) → ¬ F (v ++ w) e) → (e : ℕ) → ¬ Beyond k F w e
   beyond-none w n e b = n (b .front ++ (b .label ∷ [])) e (rw (append-assoc (b .front) (b .label ∷ []) w) (b .within .holds))
 
--- ---- the parts have nothing in common where F holds of one pattern at most
+-- ---- the parts have nothing in common if F holds of one pattern at most
 
 same-length : (a b : List ℕ) (x y : ℕ) (w : List ℕ) → a ++ (x ∷ w) ≡ b ++ (y ∷ w) → length a ≡ length b
 same-length a b x y w e = omega (arith, ap length e, length-append a (x ∷ w), length-append b (y ∷ w))
 
--- the label before an ending is one
+-- the label before a suffix is one
 before-same : (a b : List ℕ) (x y : ℕ) (w : List ℕ) → a ++ (x ∷ w) ≡ b ++ (y ∷ w) → x ≡ y
 before-same a b x y w e =
     sym (getD-append-seam a x w 0) ∙ ap (λ (l : List ℕ). getD l (length a) 0) e

@@ -12,3 +12,8 @@ pub record Picked (R : ℕ → ℕ → Type 0) (side c e : ℕ) : Type 0 where
   pub late : hub + side ≤ owner
   pub alone : (v : ℕ) → v < hub → R hub v → R v owner → ⊥
   pub is : e ≡ entryOf side owner hub c
+
+-- the entries of both sides by one relation: out entries, whose owner stands in it to the hub, and in entries, whose hub does to the owner
+pub data EntryBy (R : ℕ → ℕ → Type 0) (c e : ℕ) : Type 0 where
+  out : Picked (λ u y. R y u) 0 c e → EntryBy R c e
+  into : Picked R 1 c e → EntryBy R c e

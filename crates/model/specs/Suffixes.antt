@@ -1,4 +1,4 @@
--- Patterns by their endings: what holds of patterns with one label before a word, and of those with more.
+-- Patterns by their suffixes: what holds of patterns with one label before a word, and of those with more.
 use mathlib.Core.List.{List, _∷_, _++_}
 use Prim.Native.Nat.{ℕ, suc, _<_}
 use Rattle.model.specs.Patterns.{Pattern}

@@ -13,7 +13,7 @@ use Rattle.model.specs.Renumber.{translate}
 use Rattle.model.proofs.Lists.{getD-in, getD-map}
 use Rattle.model.proofs.Ranks.{rank-at, names-length}
 use Rattle.model.proofs.Renumber.{entry-fields}
-use Rattle.sort.specs.Order.{Distinct, Narrow}
+use Rattle.sort.specs.Order.{narrowBits, Distinct, FiveBytes}
 use Rattle.edges.proofs.Mix.{Mixed, front-none, front-turn}
 use Rattle.output.specs.Output.{Translatable}
 
@@ -52,14 +52,14 @@ module _ {order staged : List ℕ} (t : Translatable order staged) where
     hub-small : getD order (hubOf x) 0 < mostVertices
     hub-small = t .order-small _ (getD-in order (hubOf x) (t .hubs x m))
 
-    pub translate-small : translate order x < 2 ^ 40
+    pub translate-small : translate order x < 2 ^ narrowBits
     translate-small = omega (arith, t .sides x m, owner-small, hub-small)
 
     fields : (sideOf (translate order x) ≡ sideOf x) × (ownerOf (translate order x) ≡ getD order (ownerOf x) 0)
         × (hubOf (translate order x) ≡ getD order (hubOf x) 0) × (codeOf (translate order x) ≡ codeOf x)
     fields = entry-fields (sideOf x) _ _ (codeOf x) owner-small hub-small (omega arith)
 
-  pub translate-narrow : Narrow (map (translate order) staged)
+  pub translate-narrow : FiveBytes (map (translate order) staged)
   translate-narrow = record { small = λ y m. let (x, k, e) = Memᴰ·of-map (translate order) staged m in rw e at (translate-small x k) }
 
   -- an order that names each vertex once tells the ranks apart

@@ -7,7 +7,10 @@ use lib.ListN.{length, take, drop, replicate, length-append, length-drop}
 use lib.Seq.{take-at, drop-at, take-length, drop-length}
 use Rattle.model.specs.Lists.{zeroed}
 use Rattle.sort.specs.Order.{Sorts}
-use Rattle.output.specs.Output.{Written}
+use Rattle.output.specs.Output.{WritesIndex}
+
+pub written-as : {staged staged′ index index′ : List ℕ} → staged ≡ staged′ → WritesIndex staged index index′ → WritesIndex staged′ index index′
+written-as e z = rw e at z
 
 module _ (staged index : List ℕ) {sorted : List ℕ} (s : Sorts staged sorted) where
   abbrev pub n : ℕ
@@ -20,7 +23,7 @@ module _ (staged index : List ℕ) {sorted : List ℕ} (s : Sorts staged sorted)
   abbrev pub rest : ℕ
   rest = length between - n
 
-  pub written : {zeros : List ℕ} → zeros ≡ zeroed (take rest (drop n between)) → Written staged index (take n between ++ (zeros ++ drop rest (drop n between)))
+  pub written : {zeros : List ℕ} → zeros ≡ zeroed (take rest (drop n between)) → WritesIndex staged index (take n between ++ (zeros ++ drop rest (drop n between)))
   written {zeros} z = record {
     sorted = sorted;
     sorts = s;

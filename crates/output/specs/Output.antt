@@ -1,12 +1,13 @@
 -- From staged entries to index memory.
 use mathlib.Core.Path.{_≡_}
-use mathlib.Core.List.{List}
-use Prim.Native.Nat.{ℕ, _<_}
+use mathlib.Core.List.{List, map}
+use Prim.Native.Nat.{ℕ, _≤_, _<_}
 use lib.ListN.{length}
 use Rattle.model.specs.Lists.{_∈_, filled}
 use Rattle.model.specs.Limits.{mostVertices}
 use Rattle.model.specs.Query.{sideOf, ownerOf, hubOf}
-use Rattle.sort.specs.Order.{Sorts}
+use Rattle.model.specs.Renumber.{translate}
+use Rattle.sort.specs.Order.{Distinct, FiveBytes, Sorts}
 
 -- entries whose owners and hubs are ranks of an order in memory
 pub record Translatable (order staged : List ℕ) : Type 0 where
@@ -15,8 +16,15 @@ pub record Translatable (order staged : List ℕ) : Type 0 where
   pub owners : (x : ℕ) → x ∈ staged → ownerOf x < length order
   pub hubs : (x : ℕ) → x ∈ staged → hubOf x < length order
 
+-- there are slots for them, and put back they differ
+pub record IndexWritable (order staged index : List ℕ) : Type 0 where
+  pub fits : length staged ≤ length index
+  pub translatable : Translatable order staged
+  pub distinct : Distinct (map (translate order) staged)
+  pub narrow : FiveBytes (map (translate order) staged)
+
 -- index memory is the staged numbers in rising order, and zeros behind them
-pub record Written (staged index index′ : List ℕ) : Type 0 where
+pub record WritesIndex (staged index index′ : List ℕ) : Type 0 where
   pub sorted : List ℕ
   pub sorts : Sorts staged sorted
   pub is : index′ ≡ filled (length index) sorted

@@ -1,25 +1,31 @@
 // From staged entries to index memory: owners and hubs put back from ranks to vertices, rising order, and zeros behind.
+use model::HUB_UNIT;
+use model::MOST_VERTICES;
+use model::OWNER_UNIT;
+use model::SIDE_UNIT;
 ghost use mathlib.Core.Path.{_≡_};
 ghost use mathlib.Core.List.{map};
-ghost use Prim.Native.Nat.{_≤_, _<_};
+ghost use Prim.Native.Nat.{_<_};
 ghost use lib.ListN.{length};
 ghost use Rattle.model.specs.Query.{sideOf, ownerOf, hubOf};
 ghost use Rattle.model.specs.Renumber.{translate};
-ghost use Rattle.sort.specs.Order.{Distinct, Narrow};
-ghost use Rattle.output.specs.Output.{Translatable, Written};
+ghost use Rattle.output.specs.Output.{Translatable, IndexWritable, WritesIndex};
+
+// What the remainder of an owner or a hub is taken by.
+const VERTICES: u64 = MOST_VERTICES as u64;
 
 // One entry with its owner and hub put back.
 fn put_one(order: &[u8], x: u64) -> u64
     requires { ⌜ (sideOf x < 2) × ((ownerOf x < length (now order)) × (hubOf x < length (now order))) ⌝ }
     ensures { λ r. ⌜ r ≡ translate (now (order .entry)) x ⌝ }
 {
-    let owner = order[(x / 16777216 % 256) as usize] as u64;
-    let hub = order[(x / 65536 % 256) as usize] as u64;
-    x / 4294967296 * 4294967296 + owner * 16777216 + hub * 65536 + x % 65536
+    let owner = order[(x / OWNER_UNIT % VERTICES) as usize] as u64;
+    let hub = order[(x / HUB_UNIT % VERTICES) as usize] as u64;
+    x / SIDE_UNIT * SIDE_UNIT + owner * OWNER_UNIT + hub * HUB_UNIT + x % HUB_UNIT
 }
 
 // Puts back owner and hub of each staged entry: vertex order[r] for rank r.
-pub fn put_back(order: &[u8], staged: &mut [u64])
+fn put_back(order: &[u8], staged: &mut [u64])
     requires { ⌜ Translatable (now order) (now staged) ⌝ }
     ensures { λ _. ⌜ now (staged .exit) ≡ map (translate (now (order .entry))) (now (staged .entry)) ⌝ }
 {
@@ -31,11 +37,12 @@ pub fn put_back(order: &[u8], staged: &mut [u64])
     }
 }
 
-// Writes the staged entries to index memory in rising order, and zeros behind them. The stage holds anything afterwards.
-pub fn write(staged: &mut [u64], index: &mut [u64])
-    requires { ⌜ (length (now staged) ≤ length (now index)) × (Distinct (now staged) × Narrow (now staged)) ⌝ }
-    ensures { λ _. ⌜ Written (now (staged .entry)) (now (index .entry)) (now (index .exit)) ⌝ }
+// Writes the staged entries, put back, to index memory in rising order, and zeros behind them. The stage holds anything afterwards.
+pub fn write(order: &[u8], staged: &mut [u64], index: &mut [u64])
+    requires { ⌜ IndexWritable (now order) (now staged) (now index) ⌝ }
+    ensures { λ _. ⌜ WritesIndex (map (translate (now (order .entry))) (now (staged .entry))) (now (index .entry)) (now (index .exit)) ⌝ }
 {
+    put_back(order, staged);
     let n = staged.len();
     sort::sort(staged, &mut index[..n]);
     edges::clear_work(&mut index[n..]);

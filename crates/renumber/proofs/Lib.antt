@@ -1,4 +1,4 @@
 pub mod Inverting
-pub mod Filling
+pub mod Collecting
 pub mod Renumbering
 pub mod Visiting

@@ -1,2 +1,2 @@
 pub mod Ranked
-pub mod Filling
+pub mod Collecting

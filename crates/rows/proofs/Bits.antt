@@ -7,7 +7,7 @@ use native.Mathlib.Omega.{arith}
 use native.Mathlib.Decide.{ℕ-discrete, decLt}
 use lib.Bits.{bitAnd, bitOr, differ, and-step, or-step, xor-step, and-shr, or-shr, xor-shr}
 use lib.Count.{trailingZeros, under}
-use lib.Pow.{pow-pos, pow-lt, pow-mono, pow-add, shl-exact}
+use lib.Pow.{pow-pos, pow-lt, pow-mono, pow-add, shl-exact, high, ones-lt, ones-split}
 use Rattle.rows.specs.Four.{without}
 
 -- bit i of a number
@@ -77,6 +77,15 @@ one-iff s i h = (λ e. pow-bit s i (rw is at e), λ e. rw (is, e, div-self (pow-
   where
     is : one s ≡ 2 ^ s
     is = shl-exact {a = 1} 1 s 64 (omega arith) (omega arith) ∙ one-mul (2 ^ s)
+
+-- 2 ^ k - 1 has every bit below k
+pub full-bit : (k i : ℕ) → i < k → bit (2 ^ k - 1) i ≡ 1
+full-bit k i h =
+    let j = (k - i) - 1 in
+    let q : k ≡ suc j + i = omega arith in
+    let e : (2 ^ k - 1) / 2 ^ i ≡ 2 ^ suc j - 1 =
+    ap (λ (n : ℕ). (2 ^ n - 1) / 2 ^ i) q ∙ ap (λ (n : ℕ). n / 2 ^ i) (ones-split (suc j) i) ∙ high (2 ^ suc j - 1) i (ones-lt i) in
+    omega (arith, e, pow-suc 2 j, pow-pos j)
 
 -- a number below 2 ^ k has no bit from k on
 pub bit-below : (k x i : ℕ) → x < 2 ^ k → bit x i ≡ 1 → i < k

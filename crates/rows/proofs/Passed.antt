@@ -9,34 +9,35 @@ use lib.Count.{trailingZeros}
 use lib.ListN.{getD}
 use lib.Pow.{shr-le, shr-shr}
 use Rattle.model.specs.Limits.{mostVertices}
-use Rattle.rows.specs.Rows.{cell, On, Next}
+use Rattle.rows.specs.Region.{rowNumbers}
+use Rattle.rows.specs.Rows.{cell, On, NextVertex}
 use Rattle.rows.proofs.Bits.{bit, no-bit, bit-below, Lowest, trailing}
 
 -- row r has no vertex from p up to q
-pub record Passed (w : List ℕ) (r p q : ℕ) : Type 0 where
+pub record Gap (w : List ℕ) (r p q : ℕ) : Type 0 where
   pub low : p ≤ q
   pub high : q ≤ mostVertices
   pub gap : (j : ℕ) → p ≤ j → j < q → On w r j → ⊥
 
-pub passed-none : (w : List ℕ) (r p : ℕ) → p ≤ mostVertices → Passed w r p p
+pub passed-none : (w : List ℕ) (r p : ℕ) → p ≤ mostVertices → Gap w r p p
 passed-none w r p h = record { low = le-refl p; high = h; gap = λ j k l. absurd (omega arith) }
 
-pub passed-all : {w : List ℕ} {r p q : ℕ} → Passed w r p q → mostVertices ≤ q → Next w r p q
+pub passed-all : {w : List ℕ} {r p q : ℕ} → Gap w r p q → mostVertices ≤ q → NextVertex w r p q
 passed-all m h = record { low = m .low; high = m .high; gap = m .gap; here = λ k. absurd (omega arith) }
 
-module _ {w : List ℕ} {r p q : ℕ} (m : Passed w r p q) (h : q < mostVertices) where
+module _ {w : List ℕ} {r p q : ℕ} (m : Gap w r p q) (h : q < mostVertices) where
   -- the bits of q's number from q on
   abbrev pub rest : ℕ
-  rest = getD w (r * 4 + q / 64) 0 / 2 ^ (q % 64)
+  rest = getD w (r * rowNumbers + q / 64) 0 / 2 ^ (q % 64)
 
-  rest-bit : (i : ℕ) → bit rest i ≡ bit (getD w (r * 4 + q / 64) 0) (q % 64 + i)
-  rest-bit i = ap (λ (x : ℕ). x % 2) (shr-shr (getD w (r * 4 + q / 64) 0) (q % 64) i)
+  rest-bit : (i : ℕ) → bit rest i ≡ bit (getD w (r * rowNumbers + q / 64) 0) (q % 64 + i)
+  rest-bit i = ap (λ (x : ℕ). x % 2) (shr-shr (getD w (r * rowNumbers + q / 64) 0) (q % 64) i)
 
   rest-cell : (i j : ℕ) → j ≡ q + i → j / 64 ≡ q / 64 → cell w r j ≡ bit rest i
   unfolding cell
   rest-cell i j d e = let s : j % 64 ≡ q % 64 + i = omega arith in rw (e, s) (sym (rest-bit i))
 
-  pub passed-number : rest ≡ 0 → Passed w r p (q / 64 * 64 + 64)
+  pub passed-number : rest ≡ 0 → Gap w r p (q / 64 * 64 + 64)
   passed-number z =
       record {
         low = omega (arith, m .low);
@@ -47,12 +48,12 @@ module _ {w : List ℕ} {r p q : ℕ} (m : Passed w r p q) (h : q < mostVertices
         ];
       }
 
-  pub passed-found : (rest ≡ 0 → ⊥) → getD w (r * 4 + q / 64) 0 < 2 ^ 64 → Next w r p (q + trailingZeros 64 rest)
+  pub passed-found : (rest ≡ 0 → ⊥) → getD w (r * rowNumbers + q / 64) 0 < 2 ^ 64 → NextVertex w r p (q + trailingZeros 64 rest)
   passed-found n fits =
       let t = trailingZeros 64 rest in
-      let first : Lowest rest t = trailing 64 rest (lt-of-le-of-lt (shr-le (getD w (r * 4 + q / 64) 0) (q % 64)) fits) n in
+      let first : Lowest rest t = trailing 64 rest (lt-of-le-of-lt (shr-le (getD w (r * rowNumbers + q / 64) 0) (q % 64)) fits) n in
       let inside : q % 64 + t < 64 =
-      bit-below 64 (getD w (r * 4 + q / 64) 0) (q % 64 + t) fits (sym (rest-bit t) ∙ first .here) in
+      bit-below 64 (getD w (r * rowNumbers + q / 64) 0) (q % 64 + t) fits (sym (rest-bit t) ∙ first .here) in
       record {
         low = omega (arith, m .low);
         high = omega arith;

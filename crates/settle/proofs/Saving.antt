@@ -5,7 +5,7 @@ use Prim.Native.Nat.{ℕ, _≤_}
 use native.Mathlib.Omega.{arith}
 use lib.ListN.{length, take, drop, length-append}
 use lib.Seq.{length-take-le, take-append-le, take-append-seam, drop-at}
-use Rattle.rows.specs.Room.{savedNumbers}
+use Rattle.rows.specs.Region.{savedNumbers}
 
 -- edge memory stands at the saving place once it is copied to the front of the part from there on
 pub saved-there : (edges work part rest behind : List ℕ) → savedNumbers ≤ length work → part ≡ edges ++ rest

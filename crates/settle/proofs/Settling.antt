@@ -18,7 +18,7 @@ use Rattle.calls.specs.Call.{Header, graphOf, Memory, lent}
 use Rattle.calls.specs.Card.{noRecord}
 use Rattle.calls.proofs.Change.{settle-fits, settle-short}
 use Rattle.edges.specs.Memory.{Narrow}
-use Rattle.rows.specs.Room.{savedNumbers}
+use Rattle.rows.specs.Region.{savedNumbers}
 use Rattle.build.specs.declared.Built.the-variants.{Entries, TooMany}
 use Rattle.build.specs.Build.{Saved}
 use Rattle.settle.specs.Indexing.{Indexable, Indexes}
@@ -59,9 +59,7 @@ module _ {h : Header} {n : ℕ} {edges index work : List ℕ} (s : Settleable h 
 
   pub indexable : Indexable (h .vertices) (h .longest) (take n edges) index work
   indexable = record {
-    vertices-most = s .vertices-most;
-    longest-least = s .longest-least;
-    longest-most = s .longest-most;
+    bounds = s .bounds;
     few = omega (arith, edges-front, s .fits, s .few);
     rises = s .rises;
     valid = s .valid;
@@ -86,7 +84,7 @@ module _ {h : Header} {n : ℕ} {edges index work : List ℕ} (s : Settleable h 
         getD-take (length edges) rest i 0 (omega (arith, q, size))
         ∙ ap (λ (l : List ℕ). getD l i 0) (part-all work′ savedNumbers)
         ∙ getD-drop savedNumbers work′ i 0
-        ∙ v .same (savedNumbers + i) (omega arith) (omega (arith, q, size, s .few))
+        ∙ v .same (savedNumbers + i) (record { least = omega arith; most = omega (arith, q, size, s .few) })
         ∙ sym (getD-drop savedNumbers work i 0)
         ∙ sym (getD-take (length edges) (drop savedNumbers work) i 0 (omega (arith, q, size)))
         )

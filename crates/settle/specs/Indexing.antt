@@ -6,8 +6,8 @@ use Prim.Native.Nat.{ℕ, _+_, _≤_}
 use lib.Dec.{ltb}
 use lib.ListN.{length}
 use Rattle.model.specs.Lists.{_∈_, Rising, filled}
-use Rattle.model.specs.Limits.{mostVertices, mostEdges, mostLongest, leastWork}
-use Rattle.model.specs.Edges.{Graph, edge?}
+use Rattle.model.specs.Limits.{mostEdges, leastWork}
+use Rattle.model.specs.Edges.{Graph, Bounds, edge?}
 use Rattle.model.specs.Entries.{determined}
 use Rattle.build.specs.declared.Built.{Built}
 use Rattle.build.specs.declared.Built.the-variants.{Entries, TooMany}
@@ -15,15 +15,13 @@ use Rattle.build.specs.Build.{Saved}
 
 -- a header's numbers and rising edges of its graph; work memory has room for a build
 pub record Indexable (vertices longest : ℕ) (edges index work : List ℕ) : Type 0 where
-  pub vertices-most : vertices ≤ mostVertices
-  pub longest-least : 1 ≤ longest
-  pub longest-most : longest ≤ mostLongest
+  pub bounds : Bounds vertices longest
   pub few : length edges ≤ mostEdges
   pub rises : Rising edges
   pub valid : (x : ℕ) → x ∈ edges → edge? vertices x ≡ true
   pub room : leastWork + length index ≤ length work
 
--- the entries with zeros behind where they fit, else index memory as it was; saved edge memory is kept
+-- the entries with zeros behind if they fit, else index memory as it was; saved edge memory is kept
 pub record Indexes (g : Graph) (index work index′ work′ : List ℕ) (r : Built) : Type 0 where
   pub reply : r ≡ cond (ltb (length index) (length (determined g))) TooMany (Entries (length (determined g)))
   pub index-is : index′ ≡ cond (ltb (length index) (length (determined g))) index (filled (length index) (determined g))

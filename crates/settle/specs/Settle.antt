@@ -5,15 +5,15 @@ use mathlib.Core.List.{List}
 use Prim.Native.Nat.{ℕ, _+_, _≤_}
 use lib.ListN.{length, take, drop}
 use Rattle.model.specs.Lists.{_∈_, Rising, filled}
-use Rattle.model.specs.Limits.{mostVertices, mostEdges, mostLongest, leastWork}
-use Rattle.model.specs.Edges.{edge?}
+use Rattle.model.specs.Limits.{mostEdges, leastWork}
+use Rattle.model.specs.Edges.{Bounds, edge?}
 use Rattle.model.specs.declared.Answer.{Answer}
 use Rattle.model.specs.Replies.{answerOf}
 use Rattle.calls.specs.Call.{Header, lent, Meets}
 use Rattle.calls.specs.Change.{answers, settle}
 use Rattle.calls.specs.Card.{noRecord}
 use Rattle.edges.specs.Memory.{Narrow}
-use Rattle.rows.specs.Room.{savedNumbers}
+use Rattle.rows.specs.Region.{savedNumbers}
 
 -- what edge memory held, as saved in work memory: as many numbers as it has slots
 abbrev pub savedIn : (work edges : List ℕ) → List ℕ
@@ -27,9 +27,7 @@ pub record Saves (edges work work′ : List ℕ) : Type 0 where
 
 -- n rising edges of the graph and then zeros stand in edge memory, and work memory has room for a build
 pub record Settleable (h : Header) (n : ℕ) (edges index work : List ℕ) : Type 0 where
-  pub vertices-most : h .vertices ≤ mostVertices
-  pub longest-least : 1 ≤ h .longest
-  pub longest-most : h .longest ≤ mostLongest
+  pub bounds : Bounds (h .vertices) (h .longest)
   pub few : length edges ≤ mostEdges
   pub fits : n ≤ length edges
   pub zeros : edges ≡ filled (length edges) (take n edges)

@@ -1,16 +1,15 @@
 // What insertion, removal and card reading have in common: edge memory is saved; once the wanted edges are written, their index is built, or
-// memory restored where the entries do not fit (13). Work memory ends zero.
+// memory restored if the entries do not fit (13). Work memory ends zero.
 use build::Built;
 use model::Answer;
+use model::MOST_VERTICES;
 use model::Refusal;
+use rows::SAVED;
 ghost use Prim.Native.Nat.{_+_, _≤_};
 ghost use lib.ListN.{length};
-ghost use Rattle.rows.specs.Room.{savedNumbers};
+ghost use Rattle.rows.specs.Region.{savedNumbers};
 ghost use Rattle.settle.specs.Indexing.{Indexable, Indexes};
 ghost use Rattle.settle.specs.Settle.{Saves, Settleable, Settles};
-
-// Where edge memory is saved in work memory while a change is tried.
-const SAVED: usize = 2048;
 
 // Saves edge memory in work memory, before a change is tried.
 pub fn save(edges: &[u32], work: &mut [u64])
@@ -20,8 +19,8 @@ pub fn save(edges: &[u32], work: &mut [u64])
     edges::save(edges, &mut work[SAVED..]);
 }
 
-// Builds the index that the edges determine, in the access order counted. Work memory holds anything afterwards, but for the numbers in
-// which edge memory is saved.
+// Builds the index that the edges determine, in the access order counted. Work memory holds anything afterwards, except that the numbers in
+// which edge memory is saved are kept.
 fn index_edges(
     vertices: u32,
     longest: u32,
@@ -35,8 +34,8 @@ fn index_edges(
         (now (index .entry)) (now (work .entry)) (now (index .exit)) (now (work .exit)) r
         ⌝ }
 {
-    let mut order = [0u8; 256];
-    order::counted(vertices, edges, &mut work[..768], &mut order);
+    let mut order = [0u8; MOST_VERTICES];
+    order::counted(vertices, edges, &mut work[..order::ROOM], &mut order);
     build::build(vertices, longest, edges, &order, index, work)
 }
 

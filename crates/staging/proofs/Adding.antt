@@ -1,232 +1,199 @@
 -- Numbers staged one after another, for callers too: none, one more, one stretch after another, and memory that changes elsewhere.
 use mathlib.Core.Path.{_≡_, refl, sym, subst, _∙_}
 use mathlib.Core.List.{List}
-use mathlib.Core.Logic.{_⊎_, inl, inr}
-use Prim.Native.Nat.{ℕ, _+_, _≤_, _<_}
+use mathlib.Core.Logic.{_⊎_, inl, inr, ⊎-elim, _↔_}
+use Prim.Native.Nat.{ℕ, _+_, _/_, _≤_, _<_}
 use native.Mathlib.Omega.{arith}
 use native.Mathlib.Nat.{le-refl}
-use native.Mathlib.Decide.{ℕ-discrete, decLt}
-use lib.ListN.{length, getD, set, length-set}
+use native.Mathlib.Decide.{decLt}
+use lib.ListN.{length, set, length-set}
 use lib.Seq.{getD-set-same, getD-set-other}
 use Rattle.model.specs.Limits.{leastWork}
-use Rattle.staging.specs.Stage.{staged, Adds, Over, Outcome}
+use Rattle.rows.specs.Region.{rowNumbers, workRows}
+use Rattle.rows.specs.Rows.{KeepsRows}
+use Rattle.rows.proofs.Rows.{keeps-none, keeps-as, keeps-then}
+use Rattle.staging.specs.Stage.{staged, Different, Adds, Over, Stages}
 
-pub adds-none : {w : List ℕ} {k : ℕ} {Q : ℕ → Type 0} → ((e : ℕ) → Q e → ⊥) → Adds w k w k Q
+-- ---- in one memory
+
+pub adds-none : {w : List ℕ} {k : ℕ} {Q : ℕ → Type 0} → ((e : ℕ) → Q e → ⊥) → Adds w k k Q
 adds-none n =
     record {
-      len = refl;
       more = le-refl _;
-      old = λ i _. refl;
-      only = λ i h l. absurd (omega arith);
+      different = record { only = λ i h l. absurd (omega arith); once = λ i j h l k. absurd (omega arith) };
       all = λ e q. absurd (n e q);
-      once = λ i j h l k. absurd (omega arith);
     }
 
--- ---- the same numbers in other words
+adds-one : {w : List ℕ} {n e : ℕ} → staged w n ≡ e → Adds w n (n + 1) (λ x. x ≡ e)
+adds-one {w} {n} {e} s =
+    record {
+      more = omega arith;
+      different = record {
+        only = λ i h l. let q : i ≡ n = omega arith in subst (λ (j : ℕ). staged w j ≡ e) (sym q) s;
+        once = λ i j h l k. absurd (omega arith);
+      };
+      all = λ x q. record { i = n; low = le-refl n; high = omega arith; is = s ∙ sym q };
+    }
 
-module _ {w w′ : List ℕ} {k : ℕ} {P Q : ℕ → Type 0} where
-  pub adds-as : {k′ : ℕ} → Adds w k w′ k′ P → ((e : ℕ) → P e → Q e) → ((e : ℕ) → Q e → P e) → Adds w k w′ k′ Q
-  adds-as a f g =
+module _ {w : List ℕ} {k n : ℕ} {P Q : ℕ → Type 0} where
+  -- the same numbers in other words
+  different-as : ((e : ℕ) → P e → Q e) → Different w k n P → Different w k n Q
+  different-as f d = record { only = λ i h l. f _ (d .only i h l); once = d .once }
+
+  adds-as : ((e : ℕ) → P e ↔ Q e) → Adds w k n P → Adds w k n Q
+  adds-as f a = record { more = a .more; different = different-as (λ e. f e .0) (a .different); all = λ e q. a .all e (f e .1 q) }
+
+  over-as : ((e : ℕ) → P e → Q e) → Over w k n P → Over w k n Q
+  over-as f o = record { different = different-as f (o .different); extra = o .extra; is = f _ (o .is); fresh = o .fresh }
+
+-- one stretch after another
+module _ {w : List ℕ} {k m : ℕ} {P Q : ℕ → Type 0} (a : Adds w k m P) (apart : (e : ℕ) → P e → Q e → ⊥) where
+  different-then : {n : ℕ} → Different w m n Q → Different w k n (λ e. P e ⊎ Q e)
+  different-then {n} b =
       record {
-        len = a .len;
-        more = a .more;
-        old = a .old;
-        only = λ i h l. f _ (a .only i h l);
-        all = λ e q. a .all e (g e q);
-        once = a .once;
+        only = λ i l c. elim (decLt i m) [ yes h ↦ inl (a .different .only i l h) | no h ↦ inr (b .only i (omega arith) c) ];
+        once = λ i j l c d q. elim (decLt j m) [
+          | yes h ↦ a .different .once i j l c h q
+          | no h ↦ elim (decLt i m) [
+            | yes g ↦ apart _ (a .different .only i l g) (rw q (b .only j (omega arith) d))
+            | no g ↦ b .once i j (omega arith) c d q
+          ]
+        ];
       }
 
-  over-as : {slots : ℕ} → Over w k w′ slots P → ((e : ℕ) → P e → Q e) → Over w k w′ slots Q
-  over-as o f =
+  adds-then : {n : ℕ} → Adds w m n Q → Adds w k n (λ e. P e ⊎ Q e)
+  adds-then b =
       record {
-        len = o .len;
-        old = o .old;
-        only = λ i h l. f _ (o .only i h l);
-        once = o .once;
-        extra = o .extra;
-        is = f _ (o .is);
-        fresh = o .fresh;
-      }
-
-  -- more than fit
-  pub outcome-over : {r slots : ℕ} → slots < r → Over w k w′ slots P → ((e : ℕ) → P e → Q e) → Outcome w k w′ r slots Q
-  outcome-over h o f = record { len = o .len; done = λ l. absurd (omega arith); over = λ _. over-as o f }
-
-  pub outcome-as : {r slots : ℕ} → Outcome w k w′ r slots P → ((e : ℕ) → P e → Q e) → ((e : ℕ) → Q e → P e) → Outcome w k w′ r slots Q
-  outcome-as o f g = record { len = o .len; done = λ h. adds-as (o .done h) f g; over = λ h. over-as (o .over h) f }
-
--- ---- one number more
-
-module _ {w w′ : List ℕ} {k k′ : ℕ} {P : ℕ → Type 0} (a : Adds w k w′ k′ P) (e : ℕ) (n : P e → ⊥) where
-  pub adds-put : leastWork + k′ < length w′ → Adds w k (set w′ (leastWork + k′) e) (k′ + 1) (λ x. P x ⊎ (x ≡ e))
-  adds-put h =
-      record {
-        len = length-set w′ _ _ ∙ a .len;
-        more = omega (arith, a .more);
-        old = λ i l. was i (omega (arith, a .more)) ∙ a .old i l;
-        only = only;
-        all = all;
-        once = once;
-      }
-    where
-      w″ : List ℕ
-      w″ = set w′ (leastWork + k′) e
-
-      now : staged w″ k′ ≡ e
-      now = getD-set-same w′ (leastWork + k′) e 0 h
-
-      was : (i : ℕ) → i < k′ → staged w″ i ≡ staged w′ i
-      was i l = getD-set-other w′ (leastWork + k′) (leastWork + i) e 0 (λ q. omega arith)
-
-      only : (i : ℕ) → k ≤ i → i < k′ + 1 → P (staged w″ i) ⊎ (staged w″ i ≡ e)
-      only i l b = elim (ℕ-discrete i k′) [
-        | yes q ↦ inr (rw q now)
-        | no q ↦ inl (rw (was i (omega arith)) (a .only i l (omega arith)))
-      ]
-
-      all : (x : ℕ) → P x ⊎ (x ≡ e) → (i : ℕ) × ((k ≤ i) × ((i < k′ + 1) × (staged w″ i ≡ x)))
-      all x (inl p) = let (i, (l, (b, q))) = a .all x p in (i, (l, (omega arith, was i b ∙ q)))
-      all x (inr q) = (k′, (a .more, (omega arith, now ∙ sym q)))
-
-      once : (i j : ℕ) → k ≤ i → i < j → j < k′ + 1 → staged w″ i ≡ staged w″ j → ⊥
-      once i j l b c q = elim (ℕ-discrete j k′) [
-        | yes d ↦ let z : staged w″ j ≡ e = rw d now in n (rw (sym (was i (omega arith)) ∙ q ∙ z) at (a .only i l (omega arith)))
-        | no d ↦ a .once i j l b (omega arith) (sym (was i (omega arith)) ∙ q ∙ was j (omega arith))
-      ]
-
-  pub over-now : {slots : ℕ} → k′ ≡ slots → Over w k w′ slots (λ x. P x ⊎ (x ≡ e))
-  over-now {slots} s =
-      record {
-        len = a .len;
-        old = a .old;
-        only = λ i h l. inl (a .only i h (omega arith));
-        once = λ i j h l m. a .once i j h l (omega arith);
-        extra = e;
-        is = inr refl;
-        fresh = λ i h l q. n (rw q at (a .only i h (omega arith)));
-      }
-
--- ---- one stretch after another
-
-module _ {w w′ : List ℕ} {k k′ : ℕ} {P Q : ℕ → Type 0} (a : Adds w k w′ k′ P) (n : (e : ℕ) → P e → Q e → ⊥) where
-  -- of the numbers of both
-  module _ (w″ : List ℕ) {m : ℕ} (old : (i : ℕ) → i < k′ → staged w″ i ≡ staged w′ i) (only : (i : ℕ) → k′ ≤ i → i < m → Q (staged w″ i)) where
-    only-then : (i : ℕ) → k ≤ i → i < m → P (staged w″ i) ⊎ Q (staged w″ i)
-    only-then i l c = elim (decLt i k′) [ yes h ↦ inl (rw (old i h) (a .only i l h)) | no h ↦ inr (only i (omega arith) c) ]
-
-    -- no number of the first stretch is one of Q
-    apart : (i : ℕ) → k ≤ i → i < k′ → (e : ℕ) → Q e → staged w″ i ≡ e → ⊥
-    apart i l h e q s = n e (rw (sym (old i h) ∙ s) at (a .only i l h)) q
-
-    once-then : ((i j : ℕ) → k′ ≤ i → i < j → j < m → staged w″ i ≡ staged w″ j → ⊥)
-        → (i j : ℕ) → k ≤ i → i < j → j < m → staged w″ i ≡ staged w″ j → ⊥
-    once-then once i j l c d q = elim (decLt j k′) [
-      | yes h ↦ a .once i j l c h (sym (old i (omega arith)) ∙ q ∙ old j h)
-      | no h ↦ elim (decLt i k′) [
-        | yes g ↦ apart i l g _ (only j (omega arith) d) q
-        | no g ↦ once i j (omega arith) c d q
-      ]
-    ]
-
-  pub adds-then : {w″ : List ℕ} {k″ : ℕ} → Adds w′ k′ w″ k″ Q → Adds w k w″ k″ (λ x. P x ⊎ Q x)
-  adds-then {w″} {k″} b =
-      record {
-        len = b .len ∙ a .len;
         more = omega (arith, a .more, b .more);
-        old = λ i l. b .old i (omega (arith, a .more)) ∙ a .old i l;
-        only = only-then w″ (b .old) (b .only);
-        all = all;
-        once = once-then w″ (b .old) (b .only) (b .once);
+        different = different-then (b .different);
+        all = λ e. ⊎-elim
+            (λ p. let s = a .all e p in record { i = s .i; low = s .low; high = omega (arith, s .high, b .more); is = s .is })
+            (λ q. let s = b .all e q in record { i = s .i; low = omega (arith, s .low, a .more); high = s .high; is = s .is });
       }
-    where
-      all : (x : ℕ) → P x ⊎ Q x → (i : ℕ) × ((k ≤ i) × ((i < k″) × (staged w″ i ≡ x)))
-      all x (inl p) = let (i, (l, (c, q))) = a .all x p in (i, (l, (omega (arith, b .more), b .old i c ∙ q)))
-      all x (inr p) = let (i, (l, (c, q))) = b .all x p in (i, (omega (arith, a .more), (c, q)))
 
-  pub over-then : {w″ : List ℕ} {slots : ℕ} → Over w′ k′ w″ slots Q → k′ ≤ slots → Over w k w″ slots (λ x. P x ⊎ Q x)
-  over-then {w″} {slots} b m =
+  over-then : {n : ℕ} → Over w m n Q → Over w k n (λ e. P e ⊎ Q e)
+  over-then b =
       record {
-        len = b .len ∙ a .len;
-        old = λ i l. b .old i (omega (arith, a .more)) ∙ a .old i l;
-        only = only-then w″ (b .old) (b .only);
-        once = once-then w″ (b .old) (b .only) (b .once);
+        different = different-then (b .different);
         extra = b .extra;
         is = inr (b .is);
-        fresh = fresh;
+        fresh = λ s. elim (decLt (s .i) m) [
+          | yes h ↦ apart _ (a .different .only (s .i) (s .low) h) (rw (s .is) (b .is))
+          | no h ↦ b .fresh (record { i = s .i; low = omega arith; high = s .high; is = s .is })
+        ];
       }
-    where
-      fresh : (i : ℕ) → k ≤ i → i < slots → staged w″ i ≡ b .extra → ⊥
-      fresh i l c q = elim (decLt i k′) [
-        | yes g ↦ apart w″ (b .old) (b .only) i l g _ (b .is) q
-        | no g ↦ b .fresh i (omega arith) c q
-      ]
 
--- the second stretch is begun only where the first fitted
-pub outcome-then : {w w′ w″ : List ℕ} {k r r′ slots : ℕ} {P Q : ℕ → Type 0} → Outcome w k w′ r slots P → r ≤ slots → ((e : ℕ) → P e → Q e → ⊥)
-    → Outcome w′ r w″ r′ slots Q → Outcome w k w″ r′ slots (λ x. P x ⊎ Q x)
-outcome-then o f n p =
+over-now : {w : List ℕ} {k n : ℕ} {P : ℕ → Type 0} → Adds w k n P → (e : ℕ) → (P e → ⊥) → Over w k n (λ x. P x ⊎ (x ≡ e))
+over-now {P = P} a e new =
     record {
-      len = p .len ∙ o .len;
-      done = λ h. adds-then (o .done f) n (p .done h);
-      over = λ h. over-then (o .done f) n (p .over h) f;
+      different = different-as (λ x. inl) (a .different);
+      extra = e;
+      is = inr refl;
+      fresh = λ s. new (subst P (s .is) (a .different .only (s .i) (s .low) (s .high)));
     }
 
--- ---- memory that differs only below number 4,096
+-- ---- in another memory with the same staged numbers
 
--- after the last
-module _ {w w′ w″ : List ℕ} {k : ℕ} {P : ℕ → Type 0} where
-  pub adds-kept : {k′ : ℕ} → Adds w k w′ k′ P → length w″ ≡ length w′ → ((i : ℕ) → leastWork ≤ i → getD w″ i 0 ≡ getD w′ i 0) → Adds w k w″ k′ P
-  adds-kept a l s =
+module _ {w w′ : List ℕ} {k n : ℕ} {P : ℕ → Type 0} (s : (i : ℕ) → i < n → staged w′ i ≡ staged w i) where
+  different-kept : Different w k n P → Different w′ k n P
+  different-kept d =
       record {
-        len = l ∙ a .len;
-        more = a .more;
-        old = λ i h. s _ (omega arith) ∙ a .old i h;
-        only = λ i h j. subst P (sym (s _ (omega arith))) (a .only i h j);
-        all = λ e q. let (i, (h, (j, t))) = a .all e q in (i, (h, (j, s _ (omega arith) ∙ t)));
-        once = λ i j h b d q. a .once i j h b d (sym (s _ (omega arith)) ∙ q ∙ s _ (omega arith));
+        only = λ i h l. subst P (sym (s i l)) (d .only i h l);
+        once = λ i j h b l q. d .once i j h b l (sym (s i (omega arith)) ∙ q ∙ s j l);
       }
 
-  pub over-kept : {slots : ℕ} → Over w k w′ slots P → length w″ ≡ length w′ → ((i : ℕ) → leastWork ≤ i → getD w″ i 0 ≡ getD w′ i 0) → Over w k w″ slots P
-  over-kept o l s =
+  adds-kept : Adds w k n P → Adds w′ k n P
+  adds-kept a =
       record {
-        len = l ∙ o .len;
-        old = λ i h. s _ (omega arith) ∙ o .old i h;
-        only = λ i h j. subst P (sym (s _ (omega arith))) (o .only i h j);
-        once = λ i j h b d q. o .once i j h b d (sym (s _ (omega arith)) ∙ q ∙ s _ (omega arith));
+        more = a .more;
+        different = different-kept (a .different);
+        all = λ e q. let t = a .all e q in record { i = t .i; low = t .low; high = t .high; is = s (t .i) (t .high) ∙ t .is };
+      }
+
+  over-kept : Over w k n P → Over w′ k n P
+  over-kept o =
+      record {
+        different = different-kept (o .different);
         extra = o .extra;
         is = o .is;
-        fresh = λ i h j q. o .fresh i h j (sym (s _ (omega arith)) ∙ q);
+        fresh = λ t. o .fresh (record { i = t .i; low = t .low; high = t .high; is = sym (s (t .i) (t .high)) ∙ t .is });
       }
 
-  pub outcome-kept : {r slots : ℕ} → Outcome w k w′ r slots P → length w″ ≡ length w′ → ((i : ℕ) → leastWork ≤ i → getD w″ i 0 ≡ getD w′ i 0)
-      → Outcome w k w″ r slots P
-  outcome-kept o l s = record { len = l ∙ o .len; done = λ h. adds-kept (o .done h) l s; over = λ h. over-kept (o .over h) l s }
+-- ---- from memory to memory
 
--- before the first
-module _ {w w′ w″ : List ℕ} {k r slots : ℕ} {P : ℕ → Type 0} (o : Outcome w′ k w″ r slots P) (l : length w′ ≡ length w)
-    (s : (i : ℕ) → leastWork ≤ i → getD w′ i 0 ≡ getD w i 0) where
-  pub outcome-since : Outcome w k w″ r slots P
-  outcome-since = record { len = o .len ∙ l; done = λ h. done (o .done h); over = λ h. over (o .over h) }
-    where
-      done : Adds w′ k w″ r P → Adds w k w″ r P
-      done a =
-          record {
-            len = a .len ∙ l;
-            more = a .more;
-            old = λ i h. a .old i h ∙ s _ (omega arith);
-            only = a .only;
-            all = a .all;
-            once = a .once;
-          }
+pub stages-none : {w : List ℕ} {K P : ℕ → Type 0} {slots cnt : ℕ} → cnt ≤ slots → ((e : ℕ) → P e → ⊥) → Stages w K P slots cnt w cnt
+stages-none h n = record { keeps = keeps-none; old = λ i _. refl; done = λ _. adds-none n; over = λ l. absurd (omega arith) }
 
-      over : Over w′ k w″ slots P → Over w k w″ slots P
-      over a =
-          record {
-            len = a .len ∙ l;
-            old = λ i h. a .old i h ∙ s _ (omega arith);
-            only = a .only;
-            once = a .once;
-            extra = a .extra;
-            is = a .is;
-            fresh = a .fresh;
-          }
+-- the rows behind the last of work memory are the stage
+staged-kept : {w w′ : List ℕ} {K : ℕ → Type 0} → KeepsRows w w′ K → ((q : ℕ) → workRows ≤ q → K q) → (i : ℕ) → staged w′ i ≡ staged w i
+staged-kept h f i = h .same (leastWork + i) (f ((leastWork + i) / rowNumbers) (omega arith))
+
+pub put-keeps : (w : List ℕ) (k e : ℕ) → KeepsRows w (set w (leastWork + k) e) (λ q. q < workRows)
+put-keeps w k e = record { len = length-set w _ _; same = λ i x. getD-set-other w (leastWork + k) i e 0 (λ q. omega arith) }
+
+module _ {w w′ : List ℕ} {K P : ℕ → Type 0} {slots cnt r : ℕ} (s : Stages w K P slots cnt w′ r) where
+  pub stages-as : {Q : ℕ → Type 0} → ((e : ℕ) → P e ↔ Q e) → Stages w K Q slots cnt w′ r
+  stages-as f = record { keeps = s .keeps; old = s .old; done = λ h. adds-as f (s .done h); over = λ h. over-as (λ e. f e .0) (s .over h) }
+
+  -- more than fit
+  pub stages-over : {Q : ℕ → Type 0} → slots < r → ((e : ℕ) → P e → Q e) → Stages w K Q slots cnt w′ r
+  stages-over l f = record { keeps = s .keeps; old = s .old; done = λ h. absurd (omega arith); over = λ h. over-as f (s .over h) }
+
+  -- the second stretch is begun only if the first fitted
+  pub stages-then : {Q : ℕ → Type 0} {w″ : List ℕ} {r′ : ℕ} → r ≤ slots → ((e : ℕ) → P e → Q e → ⊥) → Stages w′ K Q slots r w″ r′
+      → Stages w K (λ e. P e ⊎ Q e) slots cnt w″ r′
+  stages-then fits apart t =
+      let a = s .done fits in
+      record {
+        keeps = keeps-then (s .keeps) (t .keeps);
+        old = λ i h. t .old i (omega (arith, a .more)) ∙ s .old i h;
+        done = λ h. adds-then (adds-kept (t .old) a) apart (t .done h);
+        over = λ h. over-then (adds-kept (t .old) a) apart (t .over h);
+      }
+
+  -- memory changes elsewhere, afterwards and before
+  pub stages-kept : {w″ : List ℕ} {L : ℕ → Type 0} → KeepsRows w′ w″ L → ((q : ℕ) → K q → L q) → ((q : ℕ) → workRows ≤ q → L q)
+      → Stages w K P slots cnt w″ r
+  stages-kept h f g =
+      let same = staged-kept h g in
+      record {
+        keeps = keeps-then (s .keeps) (keeps-as f h);
+        old = λ i l. same i ∙ s .old i l;
+        done = λ l. adds-kept (λ i _. same i) (s .done l);
+        over = λ l. over-kept (λ i _. same i) (s .over l);
+      }
+
+  pub stages-since : {v : List ℕ} {L : ℕ → Type 0} → KeepsRows v w L → ((q : ℕ) → K q → L q) → ((q : ℕ) → workRows ≤ q → L q)
+      → Stages v K P slots cnt w′ r
+  stages-since h f g =
+      record { keeps = keeps-then (keeps-as f h) (s .keeps); old = λ i l. s .old i l ∙ staged-kept h g i; done = s .done; over = s .over }
+
+  pub stages-within : {L : ℕ → Type 0} → ((q : ℕ) → L q → K q) → Stages w L P slots cnt w′ r
+  stages-within f = record { keeps = keeps-as f (s .keeps); old = s .old; done = s .done; over = s .over }
+
+  -- one number more: every slot is taken, or it is staged
+  module _ (e : ℕ) (new : P e → ⊥) where
+    pub stages-full : r ≡ slots → Stages w K (λ x. P x ⊎ (x ≡ e)) slots cnt w′ (slots + 1)
+    stages-full q =
+        record {
+          keeps = s .keeps;
+          old = s .old;
+          done = λ l. absurd (omega arith);
+          over = λ _. let a = s .done (omega arith) in over-now (rw q at a) e new;
+        }
+
+    pub stages-put : r < slots → leastWork + slots ≤ length w′ → ((q : ℕ) → K q → q < workRows)
+        → Stages w K (λ x. P x ⊎ (x ≡ e)) slots cnt (set w′ (leastWork + r) e) (r + 1)
+    stages-put l room f =
+        record {
+          keeps = keeps-then (s .keeps) (keeps-as f (put-keeps w′ r e));
+          old = λ i h. was i (omega (arith, a .more)) ∙ s .old i h;
+          done = λ _. adds-then (adds-kept was a) (λ x p q. new (rw q at p)) (adds-one (getD-set-same w′ (leastWork + r) e 0 (omega arith)));
+          over = λ h. absurd (omega arith);
+        }
+      where
+        a : Adds w′ cnt r P
+        a = s .done (omega arith)
+
+        was : (i : ℕ) → i < r → staged (set w′ (leastWork + r) e) i ≡ staged w′ i
+        was i h = getD-set-other w′ (leastWork + r) (leastWork + i) e 0 (λ q. omega arith)

@@ -1,6 +1,5 @@
 pub mod Adding
 pub mod Picking
 pub mod Emitting
-pub mod Passing
-pub mod Hubbing
 pub mod Owning
+pub mod Passing

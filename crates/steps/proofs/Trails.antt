@@ -1,7 +1,6 @@
 -- Laws of trails: edge by edge, end to end, and as the walks of a graph.
 use mathlib.Core.Path.{_≡_, refl}
 use mathlib.Core.Bool.{true}
-use mathlib.Core.Logic.{_↔_}
 use mathlib.Core.List.{List, [], _∷_, _++_}
 use Prim.Native.Nat.{ℕ, _≤_, _<_}
 use native.Mathlib.Omega.{arith}
@@ -42,7 +41,3 @@ module _ {edges : List ℕ} {vertices : ℕ} where
   pub spells-trail : vertices ≤ mostVertices → {a t : ℕ} {l : List ℕ} → Spells (bare vertices edges) a l t → Trail edges a l t
   spells-trail n Spells.here = Trail.here
   spells-trail n (Spells.edge {b = b} e p) = Trail.edge {b = b} (omega (arith, e .to)) (e .stands) (spells-trail n p)
-
-  pub trail-iff : vertices ≤ mostVertices → ((x : ℕ) → x ∈ edges → edge? vertices x ≡ true) → {a t : ℕ} {l : List ℕ} → a < vertices
-      → Trail edges a l t ↔ Spells (bare vertices edges) a l t
-  trail-iff n f k = (λ p. trail-spells f p k, spells-trail n)

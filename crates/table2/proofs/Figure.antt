@@ -6,6 +6,7 @@ use native.Mathlib.Omega.{arith}
 use borrow.Author.Tests.{le-ltb}
 use lib.ListN.{length, take, replicate, length-append}
 use lib.Seq.{take-at}
+use Rattle.model.specs.Limits.{leastWork}
 use Rattle.model.specs.Lists.{any?, all?, keep, from, spread}
 use Rattle.model.specs.Edges.{Graph, edge?, zeros?, risingEdges?, edgeMemory?, standing}
 use Rattle.model.specs.Patterns.{times, repeatFrom, minRepeat, own?, codeFrom, words, patterns}
@@ -48,12 +49,11 @@ scanned : Scans 6 edges 11
 unfolding scanOf edgeMemory? risingEdges? zeros? edge? standing
 scanned = scans 6 edges refl
 
-pub buildable : {index w : List ℕ} → 4096 + length index ≤ length w → Buildable 6 2 edges order index w
+pub buildable : {slots : ℕ} {w : List ℕ} → leastWork + slots ≤ length w → Buildable 6 2 edges order slots w
 unfolding standing
 buildable room = record {
   ordered = record { named = record { vertices-small = omega arith; long = omega arith; names = names }; few = omega arith; rises = scanned .rising; valid = scanned .edges };
-  longest-least = omega arith;
-  longest-most = omega arith;
+  bounds = omega arith;
   work = room;
 }
 

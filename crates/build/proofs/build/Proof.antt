@@ -1,12 +1,23 @@
--- `build::build` meets its contract: the entries staged, and written where they fit.
-use borrow.Author.Needs.{needs}
+-- `build::build` meets its contract: the entries staged, and written if they fit.
+use mathlib.Core.Path.{_≡_}
+use Prim.Native.Nat.{ℕ, _+_, _-_}
 use native.Mathlib.Omega.{arith}
-use Rattle.build.proofs.Building.{order-front, stageable, builds-none, writable, builds-all}
+use borrow.Author.Needs.{needs}
+use Rattle.model.specs.Limits.{leastWork}
+use Rattle.build.proofs.Building.{order-front, builds-none, writable, builds-all}
 use Rattle.build.proofs.build.Statement.{statement}
 use Rattle.build.proofs.build.Tie as tie
 
+-- where the function begins
+abbrev start : tie.After-stage → tie.Start
+start c = c .before .before .before .before .before .before
+
+-- as many numbers are lent as are staged
+lent-is : (n : ℕ) → leastWork + n - leastWork ≡ n
+lent-is n = omega arith
+
 stage-requires : tie.Need-stage-requires
-stage-requires c κs = stageable (c .before .before .before .before .before .pre)
+stage-requires c κs = c .before .before .before .before .before .pre
 
 same-length : tie.Need-same-length
 same-length c = search needs
@@ -14,18 +25,28 @@ same-length c = search needs
 returns : tie.Need-returns
 returns c =
     let stage = c .before .before .before in
-    builds-none (stage .before .before .before .before .before .before .pre) (stage .stage .ensures) (omega (arith, c .if1 .taken))
+    builds-none (start stage .args .index .now) (start stage .pre) (stage .stage .ensures) (omega (arith, c .if1 .taken))
 
-slice-aggregate-write-out : tie.Need-slice-aggregate-write-out
-slice-aggregate-write-out c =
-    let stage = c .before .before .before .before in
-    order-front (stage .before .before .before .before .before .before .pre)
+slice-aggregate-write : tie.Need-slice-aggregate-write
+slice-aggregate-write c = let stage = c .before .before .before .before in order-front (start stage .args .index .now) (start stage .pre)
 
-write-out-requires : tie.Need-write-out-requires
-write-out-requires c κs =
+add-write : tie.Need-add-write
+add-write c = search needs
+
+sub-write : tie.Need-sub-write
+sub-write c = search needs
+
+part-write-start : tie.Need-part-write-start
+part-write-start c = search needs
+
+part-write-end : tie.Need-part-write-end
+part-write-end c = search needs
+
+write-requires : tie.Need-write-requires
+write-requires c κs =
     let fits = c .before .before .before in
     let stage = fits .before .before .before in
-    writable (stage .before .before .before .before .before .before .pre) (stage .stage .ensures) (omega (arith, fits .if1 .left))
+    writable (start stage .args .index .now) (start stage .pre) (stage .stage .ensures) (omega (arith, fits .if1 .left)) (lent-is (stage .stage .result))
 
 same-length-2 : tie.Need-same-length-2
 same-length-2 c = search needs
@@ -38,7 +59,8 @@ returns-2 c =
     let write = c .before .before .before .before in
     let fits = write .before .before .before .before in
     let stage = fits .before .before .before in
-    builds-all (stage .before .before .before .before .before .before .pre) (stage .stage .ensures) (omega (arith, fits .if1 .left)) (write .write-out .ensures)
+    builds-all (start stage .args .index .now) (start stage .pre) (stage .stage .ensures) (omega (arith, fits .if1 .left)) (lent-is (stage .stage .result))
+    (write .write .last .1 .0) (write .write .kept .1 .0) (write .write .ensures)
 
 pub build-spec : {M : Type 1} → statement M
 build-spec =
@@ -47,8 +69,12 @@ build-spec =
     stage-requires
     same-length
     returns
-    slice-aggregate-write-out
-    write-out-requires
+    slice-aggregate-write
+    add-write
+    sub-write
+    part-write-start
+    part-write-end
+    write-requires
     same-length-2
     same-length-3
     returns-2)

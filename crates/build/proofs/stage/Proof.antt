@@ -4,7 +4,7 @@ use lib.ListN.{length, take}
 use lib.Seq.{length-take-le}
 use native.Mathlib.Omega.{arith}
 use borrow.Author.Needs.{needs}
-use Rattle.build.proofs.Staged.{node-ready, staged-all}
+use Rattle.build.proofs.Staged.{node-stageable, graph-stages}
 use Rattle.build.proofs.stage.Statement.{statement}
 use Rattle.build.proofs.stage.Tie as tie
 
@@ -24,8 +24,8 @@ slice-aggregate-first-slots c = front (c .before)
 first-slots-requires : tie.Need-first-slots-requires
 first-slots-requires c κs = search needs
 
-root-requires : tie.Need-root-requires
-root-requires c κs = search needs
+fill-requires : tie.Need-fill-requires
+fill-requires c κs = search needs
 
 array-share-prefix-renumbered-2 : tie.Need-array-share-prefix-renumbered-2
 array-share-prefix-renumbered-2 c = search needs
@@ -42,13 +42,13 @@ node-requires c κs =
     let slots = root .before .before in
     let renumber = slots .before .before in
     let pre = renumber .before .before .before .before .pre in
-    node-ready
+    node-stageable
     pre
     (renumber .renumber .ensures)
     (slots .first-slots .ensures)
-    (root .root .ensures)
-    (omega (arith, pre .longest-least))
-    (omega (arith, pre .longest-most))
+    (root .fill .ensures)
+    (omega (arith, pre .bounds .longest-least))
+    (omega (arith, pre .bounds .longest-most))
 
 same-length : tie.Need-same-length
 same-length c = search needs
@@ -59,11 +59,11 @@ returns c =
     let root = node .before .before .before .before .before .before in
     let slots = root .before .before in
     let renumber = slots .before .before in
-    staged-all
+    graph-stages
     (renumber .before .before .before .before .pre)
     (renumber .renumber .ensures)
     (slots .first-slots .ensures)
-    (root .root .ensures)
+    (root .fill .ensures)
     (node .node .ensures)
 
 pub stage-spec : {M : Type 1} → statement M
@@ -74,7 +74,7 @@ stage-spec =
     array-share-prefix-renumbered
     slice-aggregate-first-slots
     first-slots-requires
-    root-requires
+    fill-requires
     array-share-prefix-renumbered-2
     slice-aggregate-node
     slice-aggregate-node-2

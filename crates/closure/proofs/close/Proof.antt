@@ -2,12 +2,12 @@
 use Prim.Native.Nat.{_-_}
 use native.Mathlib.Omega.{arith}
 use Rattle.model.specs.Limits.{mostVertices}
-use Rattle.closure.proofs.Upto.{Upto, upto-none, upto-closable, upto-on, upto-more, upto-all}
+use Rattle.closure.proofs.Closing.{Closing, closing-none, closing-domain, closing-on, closing-more, closing-all}
 use Rattle.closure.proofs.close.Statement.{statement}
 use Rattle.closure.proofs.close.Tie as tie
 
 abbrev Inv-loop : tie.InvT-loop
-Inv-loop w₀ domain a₀ w a = Upto w₀ w a
+Inv-loop w₀ domain a₀ w a = Closing w₀ w a
 
 abbrev μ-loop : tie.MeasureT-loop
 μ-loop w₀ domain a₀ w a = mostVertices - a
@@ -16,12 +16,12 @@ next-requires : tie.Need-next-requires Inv-loop μ-loop
 next-requires c κs = omega (arith, c .before .before .pre)
 
 loop-holds : tie.Need-loop-holds Inv-loop μ-loop
-loop-holds c = upto-on (upto-none _) (c .before .before .before .pre) (c .next .ensures)
+loop-holds c = closing-on (closing-none _) (c .before .before .before .pre) (c .next .ensures)
 
 close-row-requires : tie.Need-close-row-requires Inv-loop μ-loop
 close-row-requires c κs =
     let turn = c .before .before in
-    record { closable = upto-closable (turn .loop .inv) (turn .before .before .before .before .pre); row = c .before .loop-test .taken; whole = turn .loop .inv .whole }
+    record { domain = closing-domain (turn .loop .inv) (turn .before .before .before .before .pre); row = c .before .loop-test .taken; whole = turn .loop .inv .whole }
 
 add-next : tie.Need-add-next Inv-loop μ-loop
 add-next c = omega arith
@@ -29,7 +29,7 @@ add-next c = omega arith
 next-requires-2 : tie.Need-next-requires-2 Inv-loop μ-loop
 next-requires-2 c κs =
     let turn = c .before .before .before .before .before .before in
-    omega (arith, turn .before .before .before .before .pre, turn .loop .inv .len, c .before .before .before .close-row .ensures .apart .len)
+    omega (arith, turn .before .before .before .before .pre, turn .loop .inv .keeps .len, c .before .before .before .close-row .ensures .keeps .len)
 
 loop-less : tie.Need-loop-less Inv-loop μ-loop
 loop-less c = omega (arith, c .next2 .ensures .low)
@@ -37,13 +37,13 @@ loop-less c = omega (arith, c .next2 .ensures .low)
 loop-again : tie.Need-loop-again Inv-loop μ-loop
 loop-again c =
     let turn = c .before .before .before .before .before .before .before in
-    upto-on (upto-more (turn .loop .inv) (c .before .before .before .before .before .before .loop-test .taken) (c .before .before .before .before .close-row .ensures)) (turn .before .before .before .before .pre) (c .next2 .ensures)
+    closing-on (closing-more (turn .loop .inv) (c .before .before .before .before .before .before .loop-test .taken) (c .before .before .before .before .close-row .ensures)) (turn .before .before .before .before .pre) (c .next2 .ensures)
 
 same-length : tie.Need-same-length Inv-loop μ-loop
-same-length c = c .before .loop .inv .len
+same-length c = c .before .loop .inv .keeps .len
 
 returns : tie.Need-returns Inv-loop μ-loop
-returns c = upto-all (c .before .loop .inv) (c .loop-test .left)
+returns c = closing-all (c .before .loop .inv) (c .loop-test .left)
 
 pub close-spec : {M : Type 1} → statement M
 close-spec =

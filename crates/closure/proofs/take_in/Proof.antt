@@ -1,27 +1,27 @@
 -- `closure::take_in` meets its contract.
 use borrow.Author.Needs.{needs}
 use native.Mathlib.Omega.{arith}
-use Rattle.closure.specs.Turns.{Taken}
-use Rattle.closure.proofs.Apart.{taken-one, taken-row}
+use Rattle.closure.specs.Turns.{TakesIn}
+use Rattle.closure.proofs.Taking.{takes-one, takes-row}
 use Rattle.closure.proofs.take_in.Statement.{statement}
 use Rattle.closure.proofs.take_in.Tie as tie
 
 -- before the branch, p alone is open no more
 taken : (c : tie.After-slice-known3) →
     let start = c .before .before .before .before .before .before .before .before .before in
-    Taken (start .args .w .now) (c .before .before .unmark .last .0) (start .args .a) (start .args .p)
+    TakesIn (start .args .w .now) (c .before .before .unmark .last .0) (start .args .a) (start .args .p)
 taken c =
     let start = c .before .before .before .before .before .before .before .before .before in
-    taken-one (start .pre .0) (start .pre .1 .0) (c .before .before .before .before .before .before .join .ensures) (c .before .before .unmark .ensures)
+    takes-one (start .pre .0) (start .pre .1 .0) (c .before .before .before .before .before .before .union .ensures) (c .before .before .unmark .ensures)
 
-join-requires : tie.Need-join-requires
-join-requires c κs = search needs
+union-requires : tie.Need-union-requires
+union-requires c κs = search needs
 
 unmark-requires : tie.Need-unmark-requires
 unmark-requires c κs = search needs
 
-less-requires : tie.Need-less-requires
-less-requires c κs = search needs
+subtract-requires : tie.Need-subtract-requires
+subtract-requires c κs = search needs
 
 same-length : tie.Need-same-length
 same-length c = search needs
@@ -30,7 +30,7 @@ returns : tie.Need-returns
 returns c =
     let branch = c .before .before .before .before in
     let start = branch .before .before .before .before .before .before .before .before .before .before in
-    taken-row (start .pre .0) (start .pre .1 .0) (omega (arith, branch .if1 .taken)) (taken (branch .before)) (c .before .before .less .ensures)
+    takes-row (start .pre .0) (start .pre .1 .0) (omega (arith, branch .if1 .taken)) (taken (branch .before)) (c .before .before .subtract .ensures)
 
 same-length-2 : tie.Need-same-length-2
 same-length-2 c = search needs
@@ -42,9 +42,9 @@ pub take-in-spec : {M : Type 1} → statement M
 take-in-spec =
     tie.close
     (tie.spec
-    join-requires
+    union-requires
     unmark-requires
-    less-requires
+    subtract-requires
     same-length
     returns
     same-length-2

@@ -3,13 +3,14 @@ use Prim.Native.Nat.{_<_}
 use native.Mathlib.Omega.{arith}
 use borrow.Author.Needs.{needs}
 use lib.ListN.{getD}
+use Rattle.model.specs.Limits.{mostVertices}
 use Rattle.model.specs.Query.{ownerOf, hubOf}
 use Rattle.output.proofs.put_one.Statement.{statement}
 use Rattle.output.proofs.put_one.Tie as tie
 
 -- the vertices that are read
 bytes : (c : tie.After-shared-slice-known)
-    → (getD (c .before .args .order .now) (ownerOf (c .before .args .x)) 0 < 256) × (getD (c .before .args .order .now) (hubOf (c .before .args .x)) 0 < 256)
+    → (getD (c .before .args .order .now) (ownerOf (c .before .args .x)) 0 < mostVertices) × (getD (c .before .args .order .now) (hubOf (c .before .args .x)) 0 < mostVertices)
 bytes c =
     let x = c .before .args .x in
     (omega (arith, c .shared-slice-known .given (ownerOf x)), omega (arith, c .shared-slice-known .given (hubOf x)))

@@ -2,12 +2,13 @@
 use Prim.Native.Nat.{_+_, _-_, _*_, _/_}
 use native.Mathlib.Omega.{arith}
 use Rattle.model.specs.Limits.{mostVertices}
-use Rattle.rows.proofs.Passed.{Passed, passed-none, passed-number, passed-found, passed-all}
+use Rattle.rows.specs.Region.{rowNumbers}
+use Rattle.rows.proofs.Passed.{Gap, passed-none, passed-number, passed-found, passed-all}
 use Rattle.rows.proofs.next.Statement.{statement}
 use Rattle.rows.proofs.next.Tie as tie
 
 abbrev Inv-loop : tie.InvT-loop
-Inv-loop w r p q₀ q = Passed w r p q
+Inv-loop w r p q₀ q = Gap w r p q
 
 abbrev μ-loop : tie.MeasureT-loop
 μ-loop w r p q₀ q = mostVertices - q
@@ -37,7 +38,7 @@ returns c =
     (start .loop .inv)
     (c .before .before .loop-test .taken)
     (c .if1 .taken)
-    (omega (arith, c .before .shared-slice-known .given (start .before .args .r * 4 + start .loop .q / 64)))
+    (omega (arith, c .before .shared-slice-known .given (start .before .args .r * rowNumbers + start .loop .q / 64)))
 
 cast-result : tie.Need-cast-result Inv-loop μ-loop
 cast-result c = omega (arith, returns c .high)

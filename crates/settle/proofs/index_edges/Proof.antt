@@ -1,6 +1,7 @@
 -- `index_edges` meets its contract: the order is counted in the front of work memory, and the index is built in it.
 use native.Mathlib.Nat.{le-refl}
 use borrow.Author.Needs.{needs}
+use Rattle.model.specs.Limits.{mostVertices}
 use Rattle.settle.proofs.Indexing.{room-front, countable, buildable, indexes}
 use Rattle.settle.proofs.index_edges.Statement.{statement}
 use Rattle.settle.proofs.index_edges.Tie as tie
@@ -15,7 +16,7 @@ slice-aggregate-counted-2 : tie.Need-slice-aggregate-counted-2
 slice-aggregate-counted-2 c = search needs
 
 counted-requires : tie.Need-counted-requires
-counted-requires c κs = countable (c .before .before .before .before .before .pre) (le-refl 256)
+counted-requires c κs = countable (c .before .before .before .before .before .pre) (le-refl mostVertices)
 
 slice-aggregate-build : tie.Need-slice-aggregate-build
 slice-aggregate-build c = search needs
@@ -24,7 +25,7 @@ build-requires : tie.Need-build-requires
 build-requires c κs =
     let count = c .before .before .before .before .before .before in
     let start = count .before .before .before .before .before .before in
-    buildable (start .pre) (count .counted .last .1 .1 .0) (le-refl 256) (count .counted .ensures) (count .counted .kept .1 .1 .0)
+    buildable (start .pre) (count .counted .last .1 .1 .0) (le-refl mostVertices) (count .counted .ensures) (count .counted .kept .1 .1 .0)
 
 same-length : tie.Need-same-length
 same-length c = search needs
@@ -37,7 +38,7 @@ returns c =
     let build = c .before .before .before .before in
     let count = build .before .before .before .before .before .before .before in
     let start = count .before .before .before .before .before .before in
-    indexes (start .pre) (count .counted .last .1 .1 .0) (le-refl 256) (count .counted .ensures) (count .counted .kept .1 .1 .0) (build .build .ensures)
+    indexes (start .pre) (count .counted .last .1 .1 .0) (le-refl mostVertices) (count .counted .ensures) (count .counted .kept .1 .1 .0) (build .build .ensures)
 
 pub index-edges-spec : {M : Type 1} → statement M
 index-edges-spec =

@@ -5,6 +5,7 @@ use lib.ListN.{length}
 use borrow.Author.Needs.{needs}
 use borrow.Rule.Slice.PartMut.{same-len-mid}
 use Rattle.model.proofs.Lists.{in-getD}
+use Rattle.rows.specs.Region.{savedNumbers}
 use Rattle.settle.proofs.Saving.{saved-there}
 use Rattle.settle.proofs.save.Statement.{statement}
 use Rattle.settle.proofs.save.Tie as tie
@@ -32,7 +33,7 @@ returns c =
     record {
       saved = saved-there (start .args .edges .now) work (save .last .1 .0) _ _ (omega (arith, start .pre)) (save .ensures);
       narrow = λ x k. let z = in-getD k in omega (arith, c .before .before .before .before .before .shared-slice-known .given (z .i), z .is);
-      work-long = same-len-mid 2048 (length work - 2048) work (save .last .1 .0) (save .kept .1 .0);
+      work-long = same-len-mid savedNumbers (length work - savedNumbers) work (save .last .1 .0) (save .kept .1 .0);
     }
 
 pub save-spec : {M : Type 1} → statement M

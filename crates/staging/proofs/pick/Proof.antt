@@ -19,43 +19,43 @@ abbrev μ-loop : tie.MeasureT-loop
 long : (c : tie.At-loop Inv-loop μ-loop) → leastWork ≤ length (c .loop .w)
 long c = omega arith
 
-long-less : (c : tie.After-less Inv-loop μ-loop) → leastWork ≤ length (c .less .last .0)
+long-less : (c : tie.After-subtract Inv-loop μ-loop) → leastWork ≤ length (c .subtract .last .0)
 long-less c = omega (arith, long (c .before .before .before))
 
-join-requires : tie.Need-join-requires Inv-loop μ-loop
-join-requires c κs = search needs
+copy-requires : tie.Need-copy-requires Inv-loop μ-loop
+copy-requires c κs = search needs
 
 next-requires : tie.Need-next-requires Inv-loop μ-loop
 next-requires c κs = search needs
 
 loop-holds : tie.Need-loop-holds Inv-loop μ-loop
 loop-holds c =
-    let join = c .before .before .before .before in
-    struck-none (join .before .before .before .pre .0) (join .join .ensures) (c .next .ensures)
+    let copy = c .before .before .before .before in
+    struck-none (copy .before .before .before .pre .0) (copy .copy .ensures) (c .next .ensures)
 
-less-requires : tie.Need-less-requires Inv-loop μ-loop
-less-requires c κs = let l = long (c .before .before) in search needs
+subtract-requires : tie.Need-subtract-requires Inv-loop μ-loop
+subtract-requires c κs = let l = long (c .before .before) in search needs
 
 next-requires-2 : tie.Need-next-requires-2 Inv-loop μ-loop
 next-requires-2 c κs = (record { row = omega arith; long = long-less (c .before .before .before) }, omega arith)
 
 same-length : tie.Need-same-length Inv-loop μ-loop
 same-length c =
-    let less = c .before .before .before .before .before in
-    less .less .ensures .len ∙ less .before .before .before .loop .inv .picked .len ∙ less .before .before .before .before .before .before .before .before .join .ensures .len
+    let struck = c .before .before .before .before .before in
+    struck .subtract .ensures .keeps .len ∙ struck .before .before .before .loop .inv .picked .keeps .len ∙ struck .before .before .before .before .before .before .before .before .copy .ensures .keeps .len
 
 returns : tie.Need-returns Inv-loop μ-loop
 returns c =
-    let less = c .before .before .before .before .before in
-    let turn = less .before .before in
-    let join = turn .before .before .before .before .before .before in
+    let struck = c .before .before .before .before .before in
+    let turn = struck .before .before in
+    let copy = turn .before .before .before .before .before .before in
     picks-since
-    (join .join .ensures)
+    (copy .copy .ensures)
     (picks-none
     (omega (arith, turn .loop-test .taken))
-    (join .before .before .before .pre .0)
+    (copy .before .before .before .pre .0)
     (turn .before .loop .inv)
-    (less .less .ensures)
+    (struck .subtract .ensures)
     (c .before .next2 .ensures)
     (c .if1 .taken))
 
@@ -70,20 +70,20 @@ loop-less c = omega (arith, c .next3 .ensures .low)
 
 loop-again : tie.Need-loop-again Inv-loop μ-loop
 loop-again c =
-    let less = c .before .before .before .before .before .before .before in
-    let turn = less .before .before in
+    let struck = c .before .before .before .before .before .before .before in
+    let turn = struck .before .before in
     struck-more
     (omega (arith, turn .loop-test .taken))
     (turn .before .before .before .before .before .before .before .before .before .pre .0)
     (turn .before .loop .inv)
-    (less .less .ensures)
+    (struck .subtract .ensures)
     (c .next3 .ensures)
 
 same-length-2 : tie.Need-same-length-2 Inv-loop μ-loop
-same-length-2 c = c .before .loop .inv .picked .len ∙ c .before .before .before .before .before .before .join .ensures .len
+same-length-2 c = c .before .loop .inv .picked .keeps .len ∙ c .before .before .before .before .before .before .copy .ensures .keeps .len
 
 returns-2 : tie.Need-returns-2 Inv-loop μ-loop
-returns-2 c = picks-since (c .before .before .before .before .before .before .join .ensures) (picks-all (omega (arith, c .loop-test .left)) (c .before .loop .inv))
+returns-2 c = picks-since (c .before .before .before .before .before .before .copy .ensures) (picks-all (omega (arith, c .loop-test .left)) (c .before .loop .inv))
 
 pub pick-spec : {M : Type 1} → statement M
 pick-spec =
@@ -91,10 +91,10 @@ pick-spec =
     (tie.spec
     Inv-loop
     μ-loop
-    join-requires
+    copy-requires
     next-requires
     loop-holds
-    less-requires
+    subtract-requires
     next-requires-2
     same-length
     returns

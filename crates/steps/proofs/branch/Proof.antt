@@ -1,4 +1,4 @@
--- `steps::branch` meets its contract: the eight rows are the vertices that an edge before slot i leads from into row `starts`.
+-- `steps::branch` meets its contract: the rows are the vertices that an edge before slot i leads from into row `starts`.
 use mathlib.Core.Path.{sym, _∙_}
 use mathlib.Core.Logic.{⊎-elim}
 use Prim.Native.Nat.{_-_, _≤_, _<_}
@@ -7,7 +7,7 @@ use lib.ListN.{length, getD}
 use Rattle.model.specs.Limits.{mostVertices, mostLabel, leastWork}
 use Rattle.model.specs.Edges.{fromOf, labelOf}
 use Rattle.model.proofs.Lists.{getD-in}
-use Rattle.steps.proofs.Kept.{keeps-long}
+use Rattle.rows.proofs.Rows.{keeps-long}
 use Rattle.steps.proofs.Branching.{Branching, branch-none, branch-pass, branch-more, branch-all}
 use Rattle.steps.proofs.branch.Statement.{statement}
 use Rattle.steps.proofs.branch.Tie as tie

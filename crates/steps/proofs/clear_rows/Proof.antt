@@ -2,19 +2,20 @@
 use Prim.Native.Nat.{_-_, _≤_}
 use native.Mathlib.Omega.{arith}
 use native.Mathlib.Nat.{le-antisymm}
-use Rattle.steps.specs.Stages.{Wiped}
-use Rattle.steps.proofs.Kept.{wiped-none, wiped-more, keeps-long}
+use Rattle.rows.proofs.Rows.{keeps-long}
+use Rattle.steps.specs.Filling.{Clears}
+use Rattle.steps.proofs.Kept.{clears-none, clears-more}
 use Rattle.steps.proofs.clear_rows.Statement.{statement}
 use Rattle.steps.proofs.clear_rows.Tie as tie
 
 abbrev Inv-loop : tie.InvT-loop
-Inv-loop w₀ base n i₀ w i = (i ≤ n) × Wiped w₀ w base i
+Inv-loop w₀ base n i₀ w i = (i ≤ n) × Clears w₀ w base i
 
 abbrev μ-loop : tie.MeasureT-loop
 μ-loop w₀ base n i₀ w i = n - i
 
 loop-holds : tie.Need-loop-holds Inv-loop μ-loop
-loop-holds c = (omega arith, wiped-none)
+loop-holds c = (omega arith, clears-none)
 
 add-clear : tie.Need-add-clear Inv-loop μ-loop
 add-clear c = omega arith
@@ -29,7 +30,7 @@ loop-less : tie.Need-loop-less Inv-loop μ-loop
 loop-less c = omega arith
 
 loop-again : tie.Need-loop-again Inv-loop μ-loop
-loop-again c = (omega arith, wiped-more (c .before .before .before .before .before .loop .inv .1) (c .before .before .clear .ensures))
+loop-again c = (omega arith, clears-more (c .before .before .before .before .before .loop .inv .1) (c .before .before .clear .ensures))
 
 same-length : tie.Need-same-length Inv-loop μ-loop
 same-length c = c .before .loop .inv .1 .keeps .len

@@ -1,16 +1,15 @@
 -- `steps::extend` meets its contract: row r has gained the rows of what the edges of the run before slot i lead to.
-use Prim.Native.Nat.{_+_, _-_}
+use Prim.Native.Nat.{_-_}
 use native.Mathlib.Omega.{arith}
 use lib.ListN.{length}
 use Rattle.edges.proofs.Slots.{under-up}
-use Rattle.rows.specs.Rows.{On}
-use Rattle.rows.proofs.Rows.{has-kept}
-use Rattle.steps.proofs.Runs.{Running, run-none, run-low, run-all, extend-more, extend-all}
+use Rattle.rows.proofs.Rows.{keeps-has}
+use Rattle.steps.proofs.Runs.{Running, run-none, run-low, run-more, run-all}
 use Rattle.steps.proofs.extend.Statement.{statement}
 use Rattle.steps.proofs.extend.Tie as tie
 
 abbrev Inv-loop : tie.InvT-loop
-Inv-loop edges slots label w₀ base r s key end i₀ w i = Running edges key r (λ b. On w₀ (base + b)) w₀ w i
+Inv-loop edges slots label w₀ base r s key end i₀ w i = Running edges w₀ label base r s w i
 
 abbrev μ-loop : tie.MeasureT-loop
 μ-loop edges slots label w₀ base r s key end i₀ w i = length edges - i
@@ -49,12 +48,12 @@ shared-slice-read-x : tie.Need-shared-slice-read-x Inv-loop μ-loop
 shared-slice-read-x c = omega arith
 
 same-length : tie.Need-same-length Inv-loop μ-loop
-same-length c = c .before .before .before .loop .inv .gains .len
+same-length c = c .before .before .before .loop .inv .gains .keeps .len
 
 returns : tie.Need-returns Inv-loop μ-loop
 returns c =
     let loop = c .before .before .before in
-    extend-all (run-all (loop .loop .inv) (loop .before .before .before .before .before .before .pre .0 .edged .rises) (λ _. c .if1 .taken))
+    run-all (loop .loop .inv) (loop .before .before .before .before .before .before .pre .0 .edged .rises) (λ _. c .if1 .taken)
 
 sub-y : tie.Need-sub-y Inv-loop μ-loop
 sub-y c = run-low (c .before .before .before .loop .inv) (c .before .before .loop-test .taken)
@@ -62,18 +61,18 @@ sub-y c = run-low (c .before .before .before .loop .inv) (c .before .before .loo
 cast-y : tie.Need-cast-y Inv-loop μ-loop
 cast-y c = omega (arith, sub-y c)
 
-add-join : tie.Need-add-join Inv-loop μ-loop
-add-join c =
+add-union : tie.Need-add-union Inv-loop μ-loop
+add-union c =
     let turn = c .before .before .before .before in
     let pre = turn .before .before .before .before .before .before .pre in
-    omega (arith, sub-y (c .before), c .before .if1 .left, pre .1 .0 .base-rows)
+    omega (arith, sub-y (c .before), c .before .if1 .left, pre .1 .base-rows)
 
-join-requires : tie.Need-join-requires Inv-loop μ-loop
-join-requires c κs =
+union-requires : tie.Need-union-requires Inv-loop μ-loop
+union-requires c κs =
     let turn = c .before .before .before .before in
     let pre = turn .before .before .before .before .before .before .pre in
-    let here = has-kept (turn .loop .inv .gains) (record { row = pre .1 .0 .row; long = pre .1 .0 .long }) in
-    (here, (here, record { row = omega (arith, sub-y (c .before), c .before .if1 .left, pre .1 .0 .base-rows); long = here .long }))
+    let here = keeps-has (turn .loop .inv .gains .keeps) (record { row = pre .1 .row; long = pre .1 .long }) in
+    (here, (here, record { row = omega (arith, sub-y (c .before), c .before .if1 .left, pre .1 .base-rows); long = here .long }))
 
 add-i : tie.Need-add-i Inv-loop μ-loop
 add-i c = omega arith
@@ -85,15 +84,15 @@ loop-again : tie.Need-loop-again Inv-loop μ-loop
 loop-again c =
     let turn = c .before .before .before .before .before .before in
     let loop = turn .before in
-    extend-more (loop .before .before .before .before .before .before .pre .1 .0) (loop .loop .inv) (turn .loop-test .taken) (c .before .before .before .before .if1 .left) (c .before .before .join .ensures)
+    run-more (loop .loop .inv) (loop .before .before .before .before .before .before .pre .1) (turn .loop-test .taken) (c .before .before .before .before .if1 .left) (c .before .before .union .ensures)
 
 same-length-2 : tie.Need-same-length-2 Inv-loop μ-loop
-same-length-2 c = c .before .loop .inv .gains .len
+same-length-2 c = c .before .loop .inv .gains .keeps .len
 
 returns-2 : tie.Need-returns-2 Inv-loop μ-loop
 returns-2 c =
     let loop = c .before in
-    extend-all (run-all (loop .loop .inv) (loop .before .before .before .before .before .before .pre .0 .edged .rises) (λ l. absurd (omega arith)))
+    run-all (loop .loop .inv) (loop .before .before .before .before .before .before .pre .0 .edged .rises) (λ l. absurd (omega arith))
 
 pub extend-spec : {M : Type 1} → statement M
 extend-spec =
@@ -116,8 +115,8 @@ extend-spec =
     returns
     sub-y
     cast-y
-    add-join
-    join-requires
+    add-union
+    union-requires
     add-i
     loop-less
     loop-again

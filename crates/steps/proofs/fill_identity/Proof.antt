@@ -1,0 +1,59 @@
+-- `steps::fill_identity` meets its contract: the rows of the vertices below a are filled, and those of the others are empty.
+use mathlib.Core.Path.{_≡_}
+use Prim.Native.Nat.{_-_}
+use native.Mathlib.Omega.{arith}
+use Rattle.model.specs.Limits.{mostVertices}
+use Rattle.rows.proofs.Rows.{keeps-long}
+use Rattle.steps.proofs.Filling.{Filling, filling-none, filling-more, filling-all}
+use Rattle.steps.proofs.fill_identity.Statement.{statement}
+use Rattle.steps.proofs.fill_identity.Tie as tie
+
+abbrev Inv-loop : tie.InvT-loop
+Inv-loop w₀ base a₀ w a = Filling base (λ v t. t ≡ v) w₀ w a
+
+abbrev μ-loop : tie.MeasureT-loop
+μ-loop w₀ base a₀ w a = mostVertices - a
+
+loop-holds : tie.Need-loop-holds Inv-loop μ-loop
+loop-holds c = filling-none (c .before .pre .empty)
+
+add-mark : tie.Need-add-mark Inv-loop μ-loop
+add-mark c = omega arith
+
+mark-requires : tie.Need-mark-requires Inv-loop μ-loop
+mark-requires c κs =
+    let loop = c .before .before in
+    let pre = loop .before .before .pre in
+    (record { row = omega (arith, pre .base-rows); long = keeps-long (loop .loop .inv .keeps) (pre .long) }, omega arith)
+
+add-a : tie.Need-add-a Inv-loop μ-loop
+add-a c = omega arith
+
+loop-less : tie.Need-loop-less Inv-loop μ-loop
+loop-less c = omega arith
+
+loop-again : tie.Need-loop-again Inv-loop μ-loop
+loop-again c =
+    let turn = c .before .before .before .before in
+    filling-more (turn .before .loop .inv) (turn .loop-test .taken) (c .before .before .mark .ensures)
+
+same-length : tie.Need-same-length Inv-loop μ-loop
+same-length c = c .before .loop .inv .keeps .len
+
+returns : tie.Need-returns Inv-loop μ-loop
+returns c = filling-all (c .before .loop .inv) (c .loop-test .left)
+
+pub fill-identity-spec : {M : Type 1} → statement M
+fill-identity-spec =
+    tie.close
+    (tie.spec
+    Inv-loop
+    μ-loop
+    loop-holds
+    add-mark
+    mark-requires
+    add-a
+    loop-less
+    loop-again
+    same-length
+    returns)
