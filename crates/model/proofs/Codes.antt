@@ -13,7 +13,7 @@ use lib.Dec.{T}
 use lib.ListN.{length, length-append}
 use Rattle.model.specs.Lists.{_∈_}
 use Rattle.model.specs.Limits.{mostLongest, digitUnit, codeDigits, hubUnit}
-use Rattle.model.specs.Patterns.{times, keyed?, own?, codeFrom, code}
+use Rattle.model.specs.Patterns.{times, Pattern, keyed?, own?, codeFrom, code}
 use Rattle.model.specs.Query.{digits, code?, Coded}
 use Rattle.model.proofs.Tests.{Tests, test-and, test-T}
 use Rattle.model.proofs.Patterns.{Digits, code-lt, test-keyed, test-own}
@@ -53,13 +53,15 @@ digits-from n a (c ∷ l) m e d =
     digits-from (suc n) (a * digitUnit + c) l m (omega arith) (λ x k. d x (List·Memᴰ·tail k))
     ∙ ap (λ (f : List ℕ). f ++ l) (rw (q, r) at (digits-more n (a * digitUnit + c) (omega arith))) ∙ append-assoc (digits n a) (c ∷ []) l
 
-digits-code : {l : List ℕ} → length l ≤ codeDigits → Digits l → digits codeDigits (code l) ≡ l
-digits-code {l} h d =
-    digits-from (codeDigits - length l) 0 l codeDigits (omega arith) d ∙ ap (λ (f : List ℕ). f ++ l) (digits-zero (codeDigits - length l))
+digits-code : {n : ℕ} {l : List ℕ} → length l ≤ n → Digits l → digits n (code l) ≡ l
+digits-code {n} {l} h d = digits-from (n - length l) 0 l n (omega arith) d ∙ ap (λ (f : List ℕ). f ++ l) (digits-zero (n - length l))
 
--- so words with one code are one
-pub code-one : {l m : List ℕ} → length l ≤ codeDigits → length m ≤ codeDigits → Digits l → Digits m → code l ≡ code m → l ≡ m
-code-one h k d f e = sym (digits-code h d) ∙ ap (digits codeDigits) e ∙ digits-code k f
+-- so words with one code are one: codes tell patterns apart
+pub code-one : {n : ℕ} {l m : List ℕ} → length l ≤ n → length m ≤ n → Digits l → Digits m → code l ≡ code m → l ≡ m
+code-one {n} h k d f e = sym (digits-code h d) ∙ ap (digits n) e ∙ digits-code k f
+
+pub code-inj : {k : ℕ} {l m : List ℕ} → Pattern k l → Pattern k m → code l ≡ code m → l ≡ m
+code-inj p q e = code-one (p .keyed .short) (q .keyed .short) (p .keyed .labels) (q .keyed .labels) e
 
 -- ---- a word behind another, and a word written several times
 

@@ -14,7 +14,8 @@ use Rattle.model.specs.Order.{rank, Names}
 use Rattle.model.specs.Entries.{Earliest, entryOf, outEntry, inEntry, Asked, IsEntry, out, into}
 use Rattle.model.specs.Query.{Answers, target, source, shared}
 use Rattle.model.proofs.Walks.{stop-iff, stop-start, stop-end, stop-left, stop-right, runs-trans, runs-to, stop-to}
-use Rattle.model.proofs.Patterns.{code-below, code-inj}
+use Rattle.model.proofs.Patterns.{code-below}
+use Rattle.model.proofs.Codes.{code-inj}
 use Rattle.model.proofs.Order.{rank-same}
 
 pub number-same : {g : Graph} {l m : List ℕ} {a b c d : ℕ} (i j : ℕ) → Small g → Asked g l a b → Asked g m c d

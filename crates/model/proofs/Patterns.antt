@@ -1,5 +1,5 @@
--- Laws of patterns: the minimum repeat exists, is one, and is a pattern again; codes tell patterns apart; the patterns as a list, by rising code.
-use mathlib.Core.Path.{_≡_, refl, sym, ap, ap₂, _∙_}
+-- Laws of patterns: the minimum repeat exists, is one, and is a pattern again; the patterns as a list, by rising code.
+use mathlib.Core.Path.{_≡_, refl, sym, ap, _∙_}
 use mathlib.Core.Logic.{⊎-elim}
 use mathlib.Core.List.{List, [], _∷_, _++_, map, append-nil, append-assoc, List·Memᴰ, List·Memᴰ·head, List·Memᴰ·tail, List·Memᴰ·cases-cons, List·Memᴰ·not-nil, List·Memᴰ·append-cases, List·Memᴰ·eq-of-singleton, Memᴰ·append-left, Memᴰ·append-right, Memᴰ·map, Memᴰ·of-map}
 use Prim.Native.Nat.{ℕ, zero, suc, _+_, _*_, _/_, _^_, _≤_, _<_}
@@ -35,32 +35,8 @@ unfolding codeFrom
 code-ge a [] = omega arith
 code-ge a (c ∷ l) = omega (arith, code-ge (a * 16 + c) l)
 
--- two codes that are equal have the same digits, also behind digits that count alike
-code-same : (a b : ℕ) (l m : List ℕ) → a < 16 * b → b < 16 * a → Digits l → Digits m → codeFrom a l ≡ codeFrom b m → (a ≡ b) × (l ≡ m)
-unfolding codeFrom
-code-same a b [] [] p q dl dm e = (e, refl)
-code-same a b [] (c ∷ m) p q dl dm e = absurd (omega (arith, code-ge (b * 16 + c) m))
-code-same a b (c ∷ l) [] p q dl dm e = absurd (omega (arith, code-ge (a * 16 + c) l))
-code-same a b (c ∷ l) (d ∷ m) p q dl dm e =
-    let f = dl c (List·Memᴰ·head refl) in
-    let g = dm d (List·Memᴰ·head refl) in
-    let (h, i) = code-same (a * 16 + c) (b * 16 + d) l m (omega arith) (omega arith) (λ x k. dl x (List·Memᴰ·tail k)) (λ x k. dm x (List·Memᴰ·tail k)) e in
-    let hc : c ≡ d = omega arith in
-    (omega arith, ap₂ _∷_ hc i)
-
 pub code-below : {k : ℕ} {l : List ℕ} → k ≤ mostLongest → Keyed k l → code l < hubUnit
 code-below {k} {l} h p = omega (arith, code-lt mostLongest 0 1 l (omega (arith, p .short)) (p .labels) (omega arith))
-
-pub code-inj : {k : ℕ} {l m : List ℕ} → Pattern k l → Pattern k m → code l ≡ code m → l ≡ m
-unfolding codeFrom
-code-inj {l = []} p q e = absurd (not-suc-le-zero (p .keyed .long))
-code-inj {l = c ∷ l} {m = []} p q e = absurd (not-suc-le-zero (q .keyed .long))
-code-inj {l = c ∷ l} {m = d ∷ m} p q e =
-    let f = p .keyed .labels c (List·Memᴰ·head refl) in
-    let g = q .keyed .labels d (List·Memᴰ·head refl) in
-    let (u, v) = code-same (0 * 16 + c) (0 * 16 + d) l m (omega arith) (omega arith) (λ x k. p .keyed .labels x (List·Memᴰ·tail k)) (λ x k. q .keyed .labels x (List·Memᴰ·tail k)) e in
-    let w : c ≡ d = omega arith in
-    ap₂ _∷_ w v
 
 infix 50 _∈ˡ_
 abbrev _∈ˡ_ : List ℕ → List (List ℕ) → Type 0

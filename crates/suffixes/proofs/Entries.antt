@@ -19,7 +19,8 @@ use Rattle.model.specs.Suffixes.{With, Beyond}
 use Rattle.model.proofs.Tests.{test-yields}
 use Rattle.model.proofs.Edges.{test-edge, edge-fields}
 use Rattle.model.proofs.Walks.{runs-to}
-use Rattle.model.proofs.Patterns.{code-below, code-inj}
+use Rattle.model.proofs.Patterns.{code-below}
+use Rattle.model.proofs.Codes.{code-inj}
 use Rattle.model.proofs.Hubs.{entry-by-as, pattern-by, entry-pattern, OfPattern, runs-from}
 use Rattle.model.proofs.Suffixes.{all-beyond}
 use Rattle.rows.specs.Rows.{NextVertex}

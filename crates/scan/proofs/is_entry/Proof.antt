@@ -32,7 +32,7 @@ slot-requires : tie.Need-slot-requires
 slot-requires c κs = search needs
 
 cast-seen : tie.Need-cast-seen
-cast-seen c = search needs
+cast-seen c = omega arith
 
 mul-seen : tie.Need-mul-seen
 mul-seen c = search needs

@@ -45,7 +45,7 @@ element-copy-out-if4 : tie.Need-element-copy-out-if4 Inv-loop μ-loop
 element-copy-out-if4 c = search needs
 
 cast-if4 : tie.Need-cast-if4 Inv-loop μ-loop
-cast-if4 c = search needs
+cast-if4 c = omega arith
 
 add-i : tie.Need-add-i Inv-loop μ-loop
 add-i c = search needs
