@@ -5,7 +5,7 @@ use Prim.Native.Nat.{ℕ, _+_, _≤_, _<_}
 use native.Mathlib.Omega.{arith}
 use native.Mathlib.Decide.{ℕ-discrete, decLt}
 use Rattle.model.specs.Limits.{mostVertices}
-use Rattle.rows.specs.Rows.{On, KeepsRows, NextVertex, Step, Domain}
+use Rattle.rows.specs.Rows.{On, KeepsRows, NextVertex, StepsTo, Domain}
 use Rattle.rows.specs.Region.{openRow, todoRow}
 use Rattle.rows.proofs.Rows.{keeps-none, keeps-as, keeps-then, keeps-domain}
 use Rattle.closure.specs.Closing.{Plus, one, Closes}
@@ -16,16 +16,16 @@ use Rattle.closure.proofs.Looked.{beside-step}
 -- from w to v the rows before a have been closed
 pub record Closing (w v : List ℕ) (a : ℕ) : Type 0 where
   pub keeps : KeepsRows w v (λ r. (mostVertices ≤ r) × ((r ≢ openRow) × (r ≢ todoRow)))
-  pub old : (x b : ℕ) → Step w x b → Step v x b
-  pub only : (x b : ℕ) → Step v x b → Plus (Step w) x b
+  pub old : (x b : ℕ) → StepsTo w x b → StepsTo v x b
+  pub only : (x b : ℕ) → StepsTo v x b → Plus (StepsTo w) x b
   pub whole : (x : ℕ) → x < a → WholeRow v x
 
 pub closing-none : (w : List ℕ) → Closing w w 0
 closing-none w = record { keeps = keeps-none; old = λ x b s. s; only = λ x b s. one s; whole = λ x h. absurd (omega arith) }
 
 -- a whole row has all that one step or more lead to
-whole-all : {w : List ℕ} {a b : ℕ} → WholeRow w a → Plus (Step w) a b → Step w a b
-whole-all {w} {a} f = plus-in (Step w a) (f .through) (λ m s. s)
+whole-all : {w : List ℕ} {a b : ℕ} → WholeRow w a → Plus (StepsTo w) a b → StepsTo w a b
+whole-all {w} {a} f = plus-in (StepsTo w a) (f .through) (λ m s. s)
 
 module _ {w v : List ℕ} {a : ℕ} (m : Closing w v a) where
   pub closing-domain : {d : ℕ} → Domain w d → Domain v d
@@ -54,19 +54,19 @@ module _ {w v : List ℕ} {a : ℕ} (m : Closing w v a) where
         whole = λ x l. record { through = λ y b s r. all x b l (plus-then (back x y s) (back y b r)) };
       }
     where
-      grows : (x b : ℕ) → Step v x b → Step v′ x b
+      grows : (x b : ℕ) → StepsTo v x b → StepsTo v′ x b
       grows x b s = elim (ℕ-discrete x a) [
         | yes e ↦ rw e (t .is b .1 (one (rw e at s)))
         | no n ↦ beside-step (t .keeps) (s .from) n b .1 s
       ]
 
-      back : (x b : ℕ) → Step v′ x b → Plus (Step v) x b
+      back : (x b : ℕ) → StepsTo v′ x b → Plus (StepsTo v) x b
       back x b s = elim (ℕ-discrete x a) [
         | yes e ↦ rw e (t .is b .0 (rw e at s))
         | no n ↦ one (beside-step (t .keeps) (s .from) n b .0 s)
       ]
 
-      all : (x b : ℕ) → x < a + 1 → Plus (Step v) x b → Step v′ x b
+      all : (x b : ℕ) → x < a + 1 → Plus (StepsTo v) x b → StepsTo v′ x b
       all x b l q = elim (ℕ-discrete x a) [
         | yes e ↦ rw e (t .is b .1 (rw e at q))
         | no n ↦ grows x b (whole-all (m .whole x (omega arith)) q)

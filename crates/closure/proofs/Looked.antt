@@ -6,7 +6,7 @@ use Prim.Native.Nat.{ℕ, _<_}
 use native.Mathlib.Omega.{arith}
 use native.Mathlib.Decide.{ℕ-discrete}
 use Rattle.model.specs.Limits.{mostVertices}
-use Rattle.rows.specs.Rows.{cell, On, KeepsRows, Becomes, NextVertex, Step}
+use Rattle.rows.specs.Rows.{cell, On, KeepsRows, Becomes, NextVertex, StepsTo}
 use Rattle.rows.specs.Region.{openRow, todoRow}
 use Rattle.rows.proofs.Rows.{cell-lt, cell-cases, next-none, keeps-none, keeps-as, keeps-then, keeps-cell, keeps-step, keeps-steps}
 use Rattle.closure.specs.Closing.{Plus, one}
@@ -18,17 +18,17 @@ use Rattle.closure.proofs.Taking.{beside-open}
 -- from w to v row a has taken in the steps of every vertex that is not open
 pub record Looked (w v : List ℕ) (a : ℕ) : Type 0 where
   pub keeps : KeepsRows w v (Beside a)
-  pub old : (b : ℕ) → Step w a b → Step v a b
-  pub only : (b : ℕ) → Step v a b → Plus (Step w) a b
-  pub looked : (x y : ℕ) → Step w x y → On v openRow x ⊎ Step v a y
+  pub old : (b : ℕ) → StepsTo w a b → StepsTo v a b
+  pub only : (b : ℕ) → StepsTo v a b → Plus (StepsTo w) a b
+  pub looked : (x y : ℕ) → StepsTo w x y → On v openRow x ⊎ StepsTo v a y
 
 -- a vertex whose row is not the one that is closed steps where it did
-pub beside-step : {w v : List ℕ} {a x : ℕ} → KeepsRows w v (Beside a) → x < mostVertices → x ≢ a → (b : ℕ) → Step v x b ↔ Step w x b
+pub beside-step : {w v : List ℕ} {a x : ℕ} → KeepsRows w v (Beside a) → x < mostVertices → x ≢ a → (b : ℕ) → StepsTo v x b ↔ StepsTo w x b
 beside-step h l n = keeps-step h (n, (λ e. omega arith, λ e. omega arith))
 
 -- ---- every vertex that steps anywhere is opened
 module _ {w w₁ : List ℕ} {d a : ℕ} (r : RowClosable w d a) (j : Becomes w w₁ openRow (On w d)) where
-  same : (x b : ℕ) → Step w₁ x b ↔ Step w x b
+  same : (x b : ℕ) → StepsTo w₁ x b ↔ StepsTo w x b
   same = keeps-steps (j .keeps) (λ x l e. omega arith)
 
   pub opened-whole : (x : ℕ) → x < a → WholeRow w₁ x
@@ -56,7 +56,7 @@ module _ {w v v₁ : List ℕ} {a p : ℕ} (m : Looked w v a) (h : a < mostVerti
   opens : (x : ℕ) → x < mostVertices → cell v₁ openRow x ≡ cell v openRow x
   opens = keeps-cell (t .keeps) openRow (λ e. omega arith)
 
-  steps : (b : ℕ) → Step v₁ a b ↔ Step v a b
+  steps : (b : ℕ) → StepsTo v₁ a b ↔ StepsTo v a b
   steps = keeps-step (t .keeps) (λ e. omega arith)
 
   gathered : Looked w v₁ a
@@ -70,9 +70,9 @@ module _ {w v v₁ : List ℕ} {a p : ℕ} (m : Looked w v a) (h : a < mostVerti
 
   -- if there is none, row a is closed
   pub looked-all : p ≡ mostVertices → ClosesRow w v₁ a
-  looked-all e = record { keeps = gathered .keeps; is = λ b. (gathered .only b, plus-in (Step v₁ a) on (gathered .old)) }
+  looked-all e = record { keeps = gathered .keeps; is = λ b. (gathered .only b, plus-in (StepsTo v₁ a) on (gathered .old)) }
     where
-      on : (x y : ℕ) → Step v₁ a x → Step w x y → Step v₁ a y
+      on : (x y : ℕ) → StepsTo v₁ a x → StepsTo w x y → StepsTo v₁ a y
       on x y s d = ⊎-elim
           (λ o. absurd (next-none n refl e x (s .to) (t .row .all x (s .to) (steps x .0 s .on, sym (opens x (s .to)) ∙ o))))
           (λ q. q)
@@ -83,7 +83,7 @@ module _ {w v v₁ : List ℕ} {a p : ℕ} (m : Looked w v a) (h : a < mostVerti
     found = t .row .only p l (n .here l)
 
     -- the steps of p, as they were first
-    own : (b : ℕ) → Step w p b → Step v₁ a b ⊎ Step v₁ p b
+    own : (b : ℕ) → StepsTo w p b → StepsTo v₁ a b ⊎ StepsTo v₁ p b
     own b s = elim (ℕ-discrete p a) [
       | yes e ↦ inl (gathered .old b (rw e at s))
       | no d ↦ inr (beside-step (gathered .keeps) l d b .1 s)
@@ -98,17 +98,17 @@ module _ {w v v₁ : List ℕ} {a p : ℕ} (m : Looked w v a) (h : a < mostVerti
           looked = λ x y s. ⊎-elim (taken x y s) (λ q. inr (k .is y .1 (inl q))) (gathered .looked x y s);
         }
       where
-        via : (b : ℕ) → Step v₁ p b → Plus (Step w) a b
+        via : (b : ℕ) → StepsTo v₁ p b → Plus (StepsTo w) a b
         via b s = elim (ℕ-discrete p a) [
           | yes e ↦ gathered .only b (rw e at s)
           | no d ↦ plus-then (m .only p (record { from = h; to = l; on = found .0 })) (one (beside-step (gathered .keeps) l d b .0 s))
         ]
 
         -- a vertex that is open no more
-        taken : (x y : ℕ) → Step w x y → On v₁ openRow x → On v₂ openRow x ⊎ Step v₂ a y
+        taken : (x y : ℕ) → StepsTo w x y → On v₁ openRow x → On v₂ openRow x ⊎ StepsTo v₂ a y
         taken x y s o = ⊎-map (λ q. q) (λ q. k .is y .1 (⊎-elim (λ e. own y (rw e at s)) (λ g. own y (closed (g .0) (g .1))) q)) (k .left x (s .from) o)
           where
-            closed : p < a → On v₁ p x → Step w p y
+            closed : p < a → On v₁ p x → StepsTo w p y
             closed g q = f p g .through x y (beside-step (gathered .keeps) l (λ e. omega arith) x .0 (record { from = l; to = s .from; on = q })) s
 
     pub looked-falls : sum (cell v₂ openRow) mostVertices < sum (cell v openRow) mostVertices

@@ -6,7 +6,7 @@ use Prim.Native.Nat.{ℕ, _<_}
 use native.Mathlib.Omega.{arith}
 use native.Mathlib.Decide.{ℕ-discrete}
 use Rattle.model.specs.Limits.{mostVertices}
-use Rattle.rows.specs.Rows.{cell, On, KeepsRows, Becomes, Step}
+use Rattle.rows.specs.Rows.{cell, On, KeepsRows, Becomes, StepsTo}
 use Rattle.rows.specs.Region.{openRow}
 use Rattle.rows.proofs.Rows.{on-dec, keeps-as, keeps-then, keeps-cell, keeps-step}
 use Rattle.closure.specs.Turns.{Beside, TakesIn}
@@ -32,7 +32,7 @@ module _ {w w₁ w₂ : List ℕ} {a p : ℕ} (h : a < mostVertices) (l : p < mo
       opens : (x : ℕ) → x < mostVertices → cell w₁ openRow x ≡ cell w openRow x
       opens = keeps-cell (j .keeps) openRow (λ e. omega arith)
 
-      same : (b : ℕ) → Step w₂ a b ↔ Step w₁ a b
+      same : (b : ℕ) → StepsTo w₂ a b ↔ StepsTo w₁ a b
       same = keeps-step (u .keeps) (λ e. omega arith)
 
   pub takes-row : p < a → TakesIn w w₁ a p → Becomes w₁ w₂ openRow (λ k. On w₁ openRow k × (On w₁ p k → ⊥)) → TakesIn w w₂ a p
@@ -45,7 +45,7 @@ module _ {w w₁ w₂ : List ℕ} {a p : ℕ} (h : a < mostVertices) (l : p < mo
         left = λ x k o. ⊎-elim (still x k) inr (t .left x k o);
       }
     where
-      same : (b : ℕ) → Step w₂ a b ↔ Step w₁ a b
+      same : (b : ℕ) → StepsTo w₂ a b ↔ StepsTo w₁ a b
       same = keeps-step (u .keeps) (λ e. omega arith)
 
       still : (x : ℕ) → x < mostVertices → On w₁ openRow x → On w₂ openRow x ⊎ ((x ≡ p) ⊎ ((p < a) × On w p x))

@@ -3,7 +3,7 @@ use mathlib.Core.List.{List}
 use mathlib.Core.Logic.{_↔_, _≢_}
 use Prim.Native.Nat.{ℕ, _≤_}
 use Rattle.model.specs.Limits.{mostVertices}
-use Rattle.rows.specs.Rows.{KeepsRows, Step}
+use Rattle.rows.specs.Rows.{KeepsRows, StepsTo}
 use Rattle.rows.specs.Region.{openRow, todoRow}
 
 -- one step of R or more
@@ -14,4 +14,4 @@ pub data Plus (R : ℕ → ℕ → Type 0) : ℕ → ℕ → Type 0 where
 -- each vertex steps to all that one step or more led to; the step rows change, and the two rows that closing uses
 pub record Closes (w w′ : List ℕ) : Type 0 where
   pub keeps : KeepsRows w w′ (λ r. (mostVertices ≤ r) × ((r ≢ openRow) × (r ≢ todoRow)))
-  pub is : (a b : ℕ) → Step w′ a b ↔ Plus (Step w) a b
+  pub is : (a b : ℕ) → StepsTo w′ a b ↔ Plus (StepsTo w) a b

@@ -4,13 +4,13 @@ use mathlib.Core.List.{List}
 use mathlib.Core.Logic.{_⊎_, _↔_, _≢_}
 use Prim.Native.Nat.{ℕ, _<_}
 use Rattle.model.specs.Limits.{mostVertices}
-use Rattle.rows.specs.Rows.{On, KeepsRows, Step, Domain}
+use Rattle.rows.specs.Rows.{On, KeepsRows, StepsTo, Domain}
 use Rattle.rows.specs.Region.{openRow, todoRow}
 use Rattle.closure.specs.Closing.{Plus}
 
 -- row a has every step of its vertices
 pub record WholeRow (w : List ℕ) (a : ℕ) : Type 0 where
-  pub through : (m b : ℕ) → Step w a m → Step w m b → Step w a b
+  pub through : (m b : ℕ) → StepsTo w a m → StepsTo w m b → StepsTo w a b
 
 -- the rows before row a are whole
 pub record RowClosable (w : List ℕ) (d a : ℕ) : Type 0 where
@@ -25,12 +25,12 @@ Beside a r = (r ≢ a) × ((r ≢ openRow) × (r ≢ todoRow))
 -- row a has become all that one step or more led to from a
 pub record ClosesRow (w w′ : List ℕ) (a : ℕ) : Type 0 where
   pub keeps : KeepsRows w w′ (Beside a)
-  pub is : (b : ℕ) → Step w′ a b ↔ Plus (Step w) a b
+  pub is : (b : ℕ) → StepsTo w′ a b ↔ Plus (StepsTo w) a b
 
 -- row p is merged into row a, and p is open no more; nor need a vertex of row p be, if p is before a
 pub record TakesIn (w w′ : List ℕ) (a p : ℕ) : Type 0 where
   pub keeps : KeepsRows w w′ (Beside a)
-  pub is : (b : ℕ) → Step w′ a b ↔ (Step w a b ⊎ Step w p b)
+  pub is : (b : ℕ) → StepsTo w′ a b ↔ (StepsTo w a b ⊎ StepsTo w p b)
   pub gone : On w′ openRow p → ⊥
   pub less : (x : ℕ) → x < mostVertices → On w′ openRow x → On w openRow x
   pub left : (x : ℕ) → x < mostVertices → On w openRow x → On w′ openRow x ⊎ ((x ≡ p) ⊎ ((p < a) × On w p x))

@@ -1,4 +1,4 @@
--- Step rows emptied one after another.
+-- StepsTo rows emptied one after another.
 use mathlib.Core.Path.{_∙_}
 use mathlib.Core.List.{List}
 use Prim.Native.Nat.{ℕ, _+_, _≤_, _<_}
@@ -6,14 +6,14 @@ use native.Mathlib.Omega.{arith}
 use native.Mathlib.Decide.{ℕ-discrete, decLt}
 use Rattle.model.specs.Limits.{mostVertices}
 use Rattle.rows.specs.Region.{stepRows}
-use Rattle.rows.specs.Rows.{KeepsRows, InRows, Becomes, NextVertex, Step, Domain}
+use Rattle.rows.specs.Rows.{KeepsRows, InRows, Becomes, NextVertex, StepsTo, Domain}
 use Rattle.rows.proofs.Rows.{keeps-none, keeps-as, keeps-then, keeps-cell, keeps-step}
 use Rattle.steps.specs.Filling.{Clears}
 
 -- the steps left are old ones, from p or above
 pub record Clearing (w w′ : List ℕ) (p : ℕ) : Type 0 where
   pub keeps : KeepsRows w w′ (λ r. InRows stepRows (stepRows + mostVertices) r → ⊥)
-  pub late : (a b : ℕ) → Step w′ a b → (p ≤ a) × Step w a b
+  pub late : (a b : ℕ) → StepsTo w′ a b → (p ≤ a) × StepsTo w a b
 
 pub clearing-none : {w : List ℕ} → Clearing w w 0
 clearing-none = record { keeps = keeps-none; late = λ a b s. (omega arith, s) }
@@ -45,6 +45,6 @@ module _ {w w′ : List ℕ} {p : ℕ} (h : Clearing w w′ p) where
       record {
         keeps = h .keeps;
         empty = record {
-          none = λ a b x k o. let s : Step w′ a b = record { from = omega (arith, x .most); to = k; on = o } in omega (arith, h .late a b s .0, s .from);
+          none = λ a b x k o. let s : StepsTo w′ a b = record { from = omega (arith, x .most); to = k; on = o } in omega (arith, h .late a b s .0, s .from);
         };
       }

@@ -9,7 +9,7 @@ use Rattle.model.specs.Limits.{mostVertices}
 use Rattle.model.specs.Hubs.{EntryBy}
 use Rattle.model.proofs.Hubs.{entry-by-as}
 use Rattle.rows.specs.Region.{stepRows, parentRows, openRow}
-use Rattle.rows.specs.Rows.{On, Row, InRows, Step, Domain}
+use Rattle.rows.specs.Rows.{On, Row, InRows, StepsTo, Domain}
 use Rattle.rows.proofs.Rows.{keeps-cell, keeps-domain, keeps-long}
 use Rattle.steps.specs.Filling.{Via, RowsFillable, FillsRows, Clears}
 use Rattle.closure.specs.Closing.{Plus, Closes}
@@ -36,7 +36,7 @@ module _ {edges slots w : List ℕ} {label starts code room cnt : ℕ} (p : Patt
 
   module _ {w₁ : List ℕ} (f : FillsRows stepRows (λ a t. Via edges w parentRows a label t) w w₁) where
     -- a vertex steps where the label and the word lead
-    steps : (a b : ℕ) → Step w₁ a b ↔ Led edges w label a b
+    steps : (a b : ℕ) → StepsTo w₁ a b ↔ Led edges w label a b
     steps a b = (
       λ s. record { from = s .from; to = s .to; via = row (s .from) .only b (s .to) (s .on) },
       λ l. record { from = l .from; to = l .to; on = row (l .from) .all b (l .to) (l .via) },
@@ -56,7 +56,7 @@ module _ {edges slots w : List ℕ} {label starts code room cnt : ℕ} (p : Patt
 
     module _ {w₂ : List ℕ} (c : Closes w₁ w₂) where
       -- then where they lead once or more
-      led : (x y : ℕ) → Step w₂ x y ↔ Plus (Led edges w label) x y
+      led : (x y : ℕ) → StepsTo w₂ x y ↔ Plus (Led edges w label) x y
       led x y = Iff·trans (c .is x y) (plus-as steps x y)
 
       pub stageable : Stageable w₂ starts code room cnt
@@ -70,7 +70,7 @@ module _ {edges slots w : List ℕ} {label starts code room cnt : ℕ} (p : Patt
             room = omega (arith, p .there, f .keeps .len, c .keeps .len);
           }
 
-      module _ {w₃ : List ℕ} {r : ℕ} (s : Stages w₂ Unpicked (EntryBy (Step w₂) code) room cnt w₃ r) where
+      module _ {w₃ : List ℕ} {r : ℕ} (s : Stages w₂ Unpicked (EntryBy (StepsTo w₂) code) room cnt w₃ r) where
         pub clearable : Domain w₃ starts
         clearable =
             keeps-domain (s .keeps) (omega (arith, p .most), λ e. omega (arith, p .most))

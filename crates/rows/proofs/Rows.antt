@@ -8,7 +8,7 @@ use native.Mathlib.Decide.{ℕ-discrete}
 use lib.ListN.{length}
 use Rattle.model.specs.Limits.{mostVertices, leastWork}
 use Rattle.rows.specs.Region.{rowNumbers}
-use Rattle.rows.specs.Rows.{cell, On, Has, Row, KeepsRows, InRows, Empty, Becomes, NextVertex, Step, Domain}
+use Rattle.rows.specs.Rows.{cell, On, Has, Row, KeepsRows, InRows, Empty, Becomes, NextVertex, StepsTo, Domain}
 
 -- ---- one memory
 
@@ -79,15 +79,15 @@ module _ {w w′ : List ℕ} {K : ℕ → Type 0} where
     pub keeps-empty : {base n : ℕ} → ((r : ℕ) → InRows base (base + n) r → K r) → Empty w base n → Empty w′ base n
     keeps-empty f e = record { none = λ r j x l o. e .none r j x l (sym (keeps-cell r (f r x) j l) ∙ o) }
 
-    pub keeps-step : {a : ℕ} → K a → (b : ℕ) → Step w′ a b ↔ Step w a b
+    pub keeps-step : {a : ℕ} → K a → (b : ℕ) → StepsTo w′ a b ↔ StepsTo w a b
     keeps-step {a} x b = (
       λ s. record { from = s .from; to = s .to; on = sym (keeps-cell a x b (s .to)) ∙ s .on },
       λ s. record { from = s .from; to = s .to; on = keeps-cell a x b (s .to) ∙ s .on },
     )
 
-    pub keeps-steps : ((a : ℕ) → a < mostVertices → K a) → (a b : ℕ) → Step w′ a b ↔ Step w a b
+    pub keeps-steps : ((a : ℕ) → a < mostVertices → K a) → (a b : ℕ) → StepsTo w′ a b ↔ StepsTo w a b
     keeps-steps f a b = (λ s. keeps-step (f a (s .from)) b .0 s, λ s. keeps-step (f a (s .from)) b .1 s)
 
-    pub keeps-domain : {d : ℕ} → K d → ((a b : ℕ) → Step w′ a b → On w d a) → Domain w d → Domain w′ d
+    pub keeps-domain : {d : ℕ} → K d → ((a b : ℕ) → StepsTo w′ a b → On w d a) → Domain w d → Domain w′ d
     keeps-domain {d} x f c =
         record { long = keeps-long (c .long); least = c .least; most = c .most; starts = λ a b s. keeps-cell d x a (s .from) ∙ f a b s }

@@ -54,7 +54,7 @@ pub record NextVertex (w : List ℕ) (r p q : ℕ) : Type 0 where
 -- ---- the step rows
 
 -- vertex a steps to vertex b: b is in row a
-pub record Step (w : List ℕ) (a b : ℕ) : Type 0 where
+pub record StepsTo (w : List ℕ) (a b : ℕ) : Type 0 where
   pub from : a < mostVertices
   pub to : b < mostVertices
   pub on : On w a b
@@ -64,4 +64,4 @@ pub record Domain (w : List ℕ) (d : ℕ) : Type 0 where
   pub long : leastWork ≤ length w
   pub least : childRows ≤ d
   pub most : d < openRow
-  pub starts : (a b : ℕ) → Step w a b → On w d a
+  pub starts : (a b : ℕ) → StepsTo w a b → On w d a

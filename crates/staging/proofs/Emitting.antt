@@ -12,7 +12,7 @@ use Rattle.model.specs.Entries.{entryOf}
 use Rattle.model.specs.Query.{hubOf}
 use Rattle.model.specs.Hubs.{Picked}
 use Rattle.model.proofs.Renumber.{entry-fields}
-use Rattle.rows.specs.Rows.{On, NextVertex, Step}
+use Rattle.rows.specs.Rows.{On, NextVertex, StepsTo}
 use Rattle.rows.specs.Region.{workRows, pickedRow}
 use Rattle.rows.proofs.Rows.{keeps-next}
 use Rattle.staging.specs.Stage.{Stages, Unpicked}
@@ -120,7 +120,7 @@ module _ {w₀ w : List ℕ} {u code : ℕ} (small : u < mostVertices) (code-sma
   hub-is : (y v : ℕ) → y < mostVertices → v < mostVertices → hubOf (entryOf 1 y v code) ≡ v
   hub-is y v h l = let (_, _, e, _) = entry-fields 1 y v code h l code-small in e
 
-  hub-there : (e : ℕ) → OwnerEntries w u code mostVertices e → Of (Picked (Step w₀) 1 code) hubOf u e
+  hub-there : (e : ℕ) → OwnerEntries w u code mostVertices e → Of (Picked (StepsTo w₀) 1 code) hubOf u e
   hub-there e m =
       let o = b .only (m .vertex) (omega (arith, m .holds .0)) (m .early) (m .holds .1) in
       record {
@@ -128,7 +128,7 @@ module _ {w₀ w : List ℕ} {u code : ℕ} (small : u < mostVertices) (code-sma
         here = ap hubOf (m .is) ∙ hub-is (m .vertex) u (m .early) small;
       }
 
-  hub-back : (e : ℕ) → Of (Picked (Step w₀) 1 code) hubOf u e → OwnerEntries w u code mostVertices e
+  hub-back : (e : ℕ) → Of (Picked (StepsTo w₀) 1 code) hubOf u e → OwnerEntries w u code mostVertices e
   hub-back e x =
       let p = x .entry in
       let q : p .hub ≡ u = omega (arith, x .here, ap hubOf (p .is) ∙ hub-is (p .owner) (p .hub) (p .related .to) (p .related .from)) in
@@ -141,6 +141,6 @@ module _ {w₀ w : List ℕ} {u code : ℕ} (small : u < mostVertices) (code-sma
       }
 
   pub hub-stages : {w′ : List ℕ} {slots cnt r : ℕ} → Stages w (λ r. r < workRows) (OwnerEntries w u code mostVertices) slots cnt w′ r
-      → Stages w₀ Unpicked (Of (Picked (Step w₀) 1 code) hubOf u) slots cnt w′ r
+      → Stages w₀ Unpicked (Of (Picked (StepsTo w₀) 1 code) hubOf u) slots cnt w′ r
   hub-stages s =
       stages-since (stages-within (stages-as s (λ e. (hub-there e, hub-back e))) (λ q x. x .0)) (b .keeps) (λ q x. x .1) (λ q l e. omega arith)

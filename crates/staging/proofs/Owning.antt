@@ -11,7 +11,7 @@ use Rattle.model.specs.Entries.{entryOf}
 use Rattle.model.specs.Query.{ownerOf}
 use Rattle.model.specs.Hubs.{Picked}
 use Rattle.model.proofs.Renumber.{entry-fields}
-use Rattle.rows.specs.Rows.{cell, On, Becomes, NextVertex, Step}
+use Rattle.rows.specs.Rows.{cell, On, Becomes, NextVertex, StepsTo}
 use Rattle.rows.specs.Region.{pickedRow}
 use Rattle.rows.proofs.Rows.{keeps-cell}
 use Rattle.staging.specs.Stage.{Transits, Stages, Unpicked}
@@ -160,10 +160,10 @@ module _ {w w₁ : List ℕ} {s code slots cnt : ℕ} (p : VertexStageable w s c
   owner-is : (y v : ℕ) → y < mostVertices → v < mostVertices → ownerOf (entryOf 0 y v code) ≡ y
   owner-is y v h l = let (_, e, _, _) = entry-fields 0 y v code h l (p .code-small) in e
 
-  same : (x y : ℕ) → Step w x y ↔ Step w₁ x y
+  same : (x y : ℕ) → StepsTo w x y ↔ StepsTo w₁ x y
   same = picked-steps (b .keeps)
 
-  owner-there : (e : ℕ) → HubEntries w₁ s code mostVertices e → Of (Picked (λ u y. Step w y u) 0 code) ownerOf s e
+  owner-there : (e : ℕ) → HubEntries w₁ s code mostVertices e → Of (Picked (λ u y. StepsTo w y u) 0 code) ownerOf s e
   owner-there e m =
       let f = free-as (λ x y. Iff·symm (same x y)) (m .holds .1) in
       record {
@@ -171,7 +171,7 @@ module _ {w w₁ : List ℕ} {s code slots cnt : ℕ} (p : VertexStageable w s c
         here = ap ownerOf (m .is) ∙ owner-is s (m .vertex) (p .vertex) (m .early);
       }
 
-  owner-back : (e : ℕ) → Of (Picked (λ u y. Step w y u) 0 code) ownerOf s e → HubEntries w₁ s code mostVertices e
+  owner-back : (e : ℕ) → Of (Picked (λ u y. StepsTo w y u) 0 code) ownerOf s e → HubEntries w₁ s code mostVertices e
   owner-back e x =
       let p = x .entry in
       let q : p .owner ≡ s = omega (arith, x .here, ap ownerOf (p .is) ∙ owner-is (p .owner) (p .hub) (p .related .from) (p .related .to)) in
@@ -179,5 +179,5 @@ module _ {w w₁ : List ℕ} {s code slots cnt : ℕ} (p : VertexStageable w s c
       record { vertex = p .hub; early = p .related .to; holds = (omega (arith, p .late), rw q at f); is = rw q at (p .is) }
 
   pub owner-stages : {w₂ : List ℕ} {r : ℕ} → Stages w₁ Unpicked (HubEntries w₁ s code mostVertices) slots cnt w₂ r
-      → Stages w Unpicked (Of (Picked (λ u y. Step w y u) 0 code) ownerOf s) slots cnt w₂ r
+      → Stages w Unpicked (Of (Picked (λ u y. StepsTo w y u) 0 code) ownerOf s) slots cnt w₂ r
   owner-stages c = stages-since (stages-as c (λ e. (owner-there e, owner-back e))) (b .keeps) (λ q x. x .1) (λ q l e. omega arith)

@@ -6,7 +6,7 @@ use Prim.Native.Nat.{ℕ, _+_, _≤_, _<_, min}
 use native.Mathlib.Omega.{arith}
 use native.Mathlib.Decide.{ℕ-discrete, decLt}
 use Rattle.model.specs.Limits.{mostVertices}
-use Rattle.rows.specs.Rows.{cell, On, KeepsRows, Becomes, NextVertex, Step}
+use Rattle.rows.specs.Rows.{cell, On, KeepsRows, Becomes, NextVertex, StepsTo}
 use Rattle.rows.specs.Region.{pickedRow}
 use Rattle.rows.proofs.Rows.{becomes-as, keeps-none, keeps-as, keeps-then, keeps-back, keeps-cell, keeps-next, keeps-steps}
 use Rattle.staging.specs.Stage.{Unpicked, Transits}
@@ -14,13 +14,13 @@ use Rattle.staging.specs.Vertex.{Free, Picks}
 
 -- ---- steps while row `picked` and the stage change
 
-pub unpicked-steps : {w w′ : List ℕ} → KeepsRows w w′ Unpicked → (a b : ℕ) → Step w a b ↔ Step w′ a b
+pub unpicked-steps : {w w′ : List ℕ} → KeepsRows w w′ Unpicked → (a b : ℕ) → StepsTo w a b ↔ StepsTo w′ a b
 unpicked-steps h = keeps-steps (keeps-back h) (λ a l. (omega arith, λ e. omega arith))
 
-pub picked-steps : {w w′ : List ℕ} → KeepsRows w w′ (λ r. r ≢ pickedRow) → (a b : ℕ) → Step w a b ↔ Step w′ a b
+pub picked-steps : {w w′ : List ℕ} → KeepsRows w w′ (λ r. r ≢ pickedRow) → (a b : ℕ) → StepsTo w a b ↔ StepsTo w′ a b
 picked-steps h = unpicked-steps (keeps-as (λ r x. x .1) h)
 
-module _ {w w′ : List ℕ} (same : (a b : ℕ) → Step w a b ↔ Step w′ a b) where
+module _ {w w′ : List ℕ} (same : (a b : ℕ) → StepsTo w a b ↔ StepsTo w′ a b) where
   pub transits-as : Transits w → Transits w′
   transits-as t = record { on = λ x y z m n. same x z .0 (t .on x y z (same x y .1 m) (same y z .1 n)) }
 
@@ -80,7 +80,7 @@ module _ {w w₁ w₂ : List ℕ} {u v : ℕ} (h : v < u) (l : u < mostVertices)
                 ];
               };
           all = λ j m q.
-              let vs : Step w u v = record { from = l; to = omega arith; on = a .here (omega arith) } in
+              let vs : StepsTo w u v = record { from = l; to = omega arith; on = a .here (omega arith) } in
               b .row .all j m (
                 a .picked .row .all j m (free-sooner (omega arith) q),
                 λ o. q .alone v (omega arith) vs (record { from = omega arith; to = m; on = sym (row j m) ∙ o }),

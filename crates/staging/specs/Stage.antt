@@ -6,7 +6,7 @@ use Prim.Native.Nat.{ℕ, _+_, _≤_, _<_}
 use lib.ListN.{length, getD}
 use Rattle.model.specs.Limits.{leastWork, hubUnit}
 use Rattle.rows.specs.Region.{workRows, pickedRow}
-use Rattle.rows.specs.Rows.{KeepsRows, Step, Domain}
+use Rattle.rows.specs.Rows.{KeepsRows, StepsTo, Domain}
 
 -- the i-th number staged
 abbrev pub staged : List ℕ → ℕ → ℕ
@@ -50,7 +50,7 @@ Unpicked r = (r < workRows) × (r ≢ pickedRow)
 
 -- each vertex steps to all that its steps lead to
 pub record Transits (w : List ℕ) : Type 0 where
-  pub on : (a b c : ℕ) → Step w a b → Step w b c → Step w a c
+  pub on : (a b c : ℕ) → StepsTo w a b → StepsTo w b c → StepsTo w a c
 
 -- the step rows are closed, and there is room for the slots
 pub record Stageable (w : List ℕ) (d code slots cnt : ℕ) : Type 0 where

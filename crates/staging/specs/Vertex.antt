@@ -6,13 +6,13 @@ use Prim.Native.Nat.{ℕ, _+_, _≤_, _<_}
 use lib.ListN.{length}
 use Rattle.model.specs.Limits.{mostVertices, leastWork, hubUnit}
 use Rattle.rows.specs.Region.{pickedRow}
-use Rattle.rows.specs.Rows.{On, KeepsRows, Step}
+use Rattle.rows.specs.Rows.{On, KeepsRows, StepsTo}
 use Rattle.staging.specs.Stage.{Transits}
 
 -- s steps to y, and no vertex below n stands between the two
 pub record Free (w : List ℕ) (s n y : ℕ) : Type 0 where
-  pub step : Step w s y
-  pub alone : (v : ℕ) → v < n → Step w s v → Step w v y → ⊥
+  pub step : StepsTo w s y
+  pub alone : (v : ℕ) → v < n → StepsTo w s v → StepsTo w v y → ⊥
 
 -- row `picked` is, from vertex u on, the vertices to which u steps with none below u between, and nothing else changed
 pub record Picks (w : List ℕ) (u : ℕ) (w′ : List ℕ) : Type 0 where

@@ -13,7 +13,7 @@ ghost use Rattle.model.specs.Limits.{mostVertices, leastWork, hubUnit};
 ghost use Rattle.model.specs.Entries.{entryOf};
 ghost use Rattle.model.specs.Query.{ownerOf, hubOf};
 ghost use Rattle.model.specs.Hubs.{Picked, EntryBy};
-ghost use Rattle.rows.specs.Rows.{Step};
+ghost use Rattle.rows.specs.Rows.{StepsTo};
 ghost use Rattle.staging.specs.Stage.{Stages, Unpicked, Stageable};
 ghost use Rattle.staging.specs.Vertex.{Picks, VertexStageable, Of};
 
@@ -44,7 +44,7 @@ fn pick(w: &mut [u64], u: usize)
 // Stages the in entries with hub u behind the first cnt. Returns how many are staged then, or slots + 1 if there are more than slots.
 fn stage_hub(w: &mut [u64], u: usize, code: u64, slots: usize, cnt: usize) -> usize
     requires { ⌜ VertexStageable (now w) u code slots cnt ⌝ }
-    ensures { λ r. ⌜ Stages (now (w .entry)) Unpicked (Of (Picked (Step (now (w .entry))) 1 code) hubOf u) slots cnt (now (w .exit)) r ⌝ }
+    ensures { λ r. ⌜ Stages (now (w .entry)) Unpicked (Of (Picked (StepsTo (now (w .entry))) 1 code) hubOf u) slots cnt (now (w .exit)) r ⌝ }
 {
     pick(w, u);
     let mut k = cnt;
@@ -65,7 +65,7 @@ fn stage_hub(w: &mut [u64], u: usize, code: u64, slots: usize, cnt: usize) -> us
 fn stage_owner(w: &mut [u64], s: usize, code: u64, slots: usize, cnt: usize) -> usize
     requires { ⌜ VertexStageable (now w) s code slots cnt ⌝ }
     ensures { λ r. ⌜
-        Stages (now (w .entry)) Unpicked (Of (Picked (λ u y. Step (now (w .entry)) y u) 0 code) ownerOf s) slots cnt (now (w .exit)) r
+        Stages (now (w .entry)) Unpicked (Of (Picked (λ u y. StepsTo (now (w .entry)) y u) 0 code) ownerOf s) slots cnt (now (w .exit)) r
         ⌝ }
 {
     rows::copy(w, PICKED, s);
@@ -87,7 +87,7 @@ fn stage_owner(w: &mut [u64], s: usize, code: u64, slots: usize, cnt: usize) -> 
 // staged then, or slots + 1 if there are more than slots.
 pub fn stage(w: &mut [u64], domain: usize, code: u64, slots: usize, cnt: usize) -> usize
     requires { ⌜ Stageable (now w) domain code slots cnt ⌝ }
-    ensures { λ r. ⌜ Stages (now (w .entry)) Unpicked (EntryBy (Step (now (w .entry))) code) slots cnt (now (w .exit)) r ⌝ }
+    ensures { λ r. ⌜ Stages (now (w .entry)) Unpicked (EntryBy (StepsTo (now (w .entry))) code) slots cnt (now (w .exit)) r ⌝ }
 {
     let mut n = cnt;
     let mut v = rows::next(w, domain, 0);
