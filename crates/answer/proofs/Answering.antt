@@ -8,18 +8,20 @@ use native.Mathlib.Decide.{decLe}
 use native.Mathlib.Omega.{arith}
 use lib.ListN.{length, getD, take, drop, length-drop}
 use lib.Seq.{length-take-le, getD-take, getD-drop}
-use Rattle.model.specs.Lists.{_∈_, mem?, Rising, Bracket}
 use Rattle.model.specs.Limits.{mostVertices, mostLongest, hubUnit, ownerUnit, sideUnit}
+use Rattle.model.specs.Lists.{_∈_, mem?, Rising}
 use Rattle.model.specs.Patterns.{Keyed, code}
 use Rattle.model.specs.Entries.{outEntry, inEntry}
-use Rattle.model.specs.Query.{hubOf, codeOf, Answers, target, source, shared}
+use Rattle.model.specs.Query.{Answers, target, source, shared}
+use Rattle.model.specs.Computed.Lists.{Bracket}
+use Rattle.model.specs.Computed.Query.{hubOf, codeOf}
 use Rattle.model.proofs.Tests.{test-true, test-false, test-yields, test-fails, test-mem}
 use Rattle.model.proofs.Lists.{Index, getD-in, in-getD, rising-lt}
 use Rattle.model.proofs.Patterns.{code-below}
 use Rattle.model.proofs.Query.{test-answers}
 use Rattle.model.proofs.IndexMemory.{test-entry}
-use Rattle.answer.specs.Saying.{Indexed, Says}
 use Rattle.answer.specs.Parts.{lowOf, HubRising, Shared, Joins}
+use Rattle.answer.specs.Saying.{Indexed, Says}
 
 -- ---- an owner's list: the entries from key on, below key + ownerUnit
 

@@ -5,7 +5,7 @@ use mathlib.Core.List.{List}
 use Prim.Native.Nat.{ℕ, _%_, _<_}
 use lib.ListN.{length, getD}
 use Rattle.model.specs.Limits.{ownerUnit}
-use Rattle.model.specs.Query.{codeOf}
+use Rattle.model.specs.Computed.Query.{codeOf}
 
 -- hub and code of an entry, hub × hubUnit + code
 abbrev pub lowOf : ℕ → ℕ

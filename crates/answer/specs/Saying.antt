@@ -3,10 +3,10 @@ use mathlib.Core.Path.{_≡_}
 use mathlib.Core.Bool.{Bool, true}
 use mathlib.Core.List.{List}
 use Prim.Native.Nat.{ℕ, _≤_, _<_}
-use Rattle.model.specs.Lists.{_∈_, Rising}
 use Rattle.model.specs.Limits.{mostVertices, mostLongest}
+use Rattle.model.specs.Lists.{_∈_, Rising}
 use Rattle.model.specs.Patterns.{Keyed}
-use Rattle.model.specs.Query.{entry?, answers?}
+use Rattle.model.specs.Computed.Query.{entry?, answers?}
 
 -- rising numbers, a pattern, and ends that are numbers of a field
 pub record Answerable (index pattern : List ℕ) (start destination : ℕ) : Type 0 where

@@ -3,7 +3,8 @@ use model::HUB_UNIT;
 use model::OWNER_UNIT;
 use model::SIDE_UNIT;
 ghost use mathlib.Core.Path.{_≡_};
-ghost use Rattle.model.specs.Lists.{Rising, Bracket, mem?};
+ghost use Rattle.model.specs.Lists.{Rising, mem?};
+ghost use Rattle.model.specs.Computed.Lists.{Bracket};
 ghost use Rattle.answer.specs.Parts.{Joinable, Joins};
 ghost use Rattle.answer.specs.Saying.{Answerable, Says};
 

@@ -7,19 +7,21 @@ use lib.ListN.{length, take, drop, List·getD-append}
 use lib.Seq.{length-take-le, getD-take}
 use borrow.Rule.Slice.PartMut.{same-len-mid}
 use Rattle.model.specs.Limits.{leastWork}
-use Rattle.model.specs.Edges.{Graph, Small}
-use Rattle.model.specs.Order.{counted, Names}
-use Rattle.model.specs.Entries.{determined}
-use Rattle.model.specs.Renumber.{translate}
+use Rattle.model.specs.Edges.{Graph}
+use Rattle.model.specs.Order.{Names}
+use Rattle.model.specs.Computed.Edges.{Small}
+use Rattle.model.specs.Computed.Order.{counted}
+use Rattle.model.specs.Computed.Entries.{determined}
+use Rattle.model.specs.Build.Renumber.{translate}
 use Rattle.model.proofs.Tests.{test-true, test-false, test-lt}
 use Rattle.rows.specs.Region.{savedRows, rootRow}
 use Rattle.rows.specs.Rows.{KeepsRows, InRows}
 use Rattle.rows.proofs.Rows.{keeps-then}
 use Rattle.output.specs.Output.{IndexWritable, WritesIndex}
 use Rattle.output.proofs.Putting.{translate-narrow, translate-distinct}
-use Rattle.build.specs.declared.Built.the-variants.{Entries, TooMany}
 use Rattle.build.specs.Build.{Buildable, listOf, Builds}
 use Rattle.build.specs.Staging.{GraphStages, stagedList}
+use Rattle.build.specs.declared.Built.the-variants.{Entries, TooMany}
 use Rattle.build.proofs.Listing.{staged-length, staged-distinct, staged-translatable, listing-length, written-listing, too-many}
 
 -- with the counted order they are the determined entries

@@ -6,18 +6,20 @@ use Prim.Native.Nat.{ℕ, _+_, _≤_, _<_}
 use native.Mathlib.Omega.{arith}
 use lib.ListN.{length, getD, drop, length-drop, length-map}
 use lib.Seq.{length-take-le, getD-take, getD-drop}
-use Rattle.model.specs.Lists.{_∈_, upTo, filled}
 use Rattle.model.specs.Limits.{mostVertices, leastWork, hubUnit}
-use Rattle.model.specs.Edges.{Graph, Small}
+use Rattle.model.specs.Lists.{_∈_, upTo, filled}
+use Rattle.model.specs.Edges.{Graph}
 use Rattle.model.specs.Patterns.{code}
 use Rattle.model.specs.Order.{Names}
-use Rattle.model.specs.Entries.{entryOf, IsEntry, entries}
-use Rattle.model.specs.Query.{sideOf, ownerOf, hubOf}
-use Rattle.model.specs.Renumber.{Renumbers, translate}
+use Rattle.model.specs.Entries.{entryOf, IsEntry}
+use Rattle.model.specs.Computed.Edges.{Small}
+use Rattle.model.specs.Computed.Entries.{entries}
+use Rattle.model.specs.Computed.Query.{sideOf, ownerOf, hubOf}
+use Rattle.model.specs.Build.Renumber.{Renumbers, translate}
 use Rattle.model.proofs.Lists.{getD-in, in-getD}
 use Rattle.model.proofs.Patterns.{code-below}
-use Rattle.model.proofs.Ranks.{names-length}
 use Rattle.model.proofs.Entries.{entries-in, entries-out}
+use Rattle.model.proofs.Ranks.{names-length}
 use Rattle.model.proofs.Renumber.{entry-fields, entry-there, entry-back}
 use Rattle.model.proofs.Counting.{index-is, more-entries}
 use Rattle.sort.specs.Order.{Distinct, Sorts}

@@ -5,19 +5,19 @@ use mathlib.Core.Logic.{_↔_, Iff·symm}
 use Prim.Native.Nat.{ℕ, _≤_, _<_}
 use native.Mathlib.Omega.{arith}
 use lib.ListN.{length, take, replicate}
-use Rattle.model.specs.Lists.{_∈_, upTo}
 use Rattle.model.specs.Limits.{mostVertices, mostLabel, mostLongest}
+use Rattle.model.specs.Lists.{_∈_, upTo}
 use Rattle.model.specs.Entries.{IsEntry}
-use Rattle.model.specs.Suffixes.{Beyond}
+use Rattle.model.specs.Build.Suffixes.{Beyond}
 use Rattle.model.proofs.Tests.{test-yields}
 use Rattle.model.proofs.Edges.{test-edge}
 use Rattle.edges.specs.Slots.{Starts}
-use Rattle.renumber.specs.Ranked.{Renumbered}
 use Rattle.rows.specs.Region.{savedRows, rootRow}
 use Rattle.rows.specs.Rows.{InRows, Becomes}
-use Rattle.steps.specs.Steps.{Slotted}
+use Rattle.renumber.specs.Ranked.{Renumbered}
 use Rattle.staging.specs.Stage.{Stages}
 use Rattle.staging.proofs.Adding.{stages-as, stages-since, stages-within}
+use Rattle.steps.specs.Steps.{Slotted}
 use Rattle.suffixes.specs.Suffixes.{PatternEntry, wordOf, baseOf, NodeStageable}
 use Rattle.suffixes.proofs.Entries.{entries-beyond}
 use Rattle.build.specs.Build.{Buildable}

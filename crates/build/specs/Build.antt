@@ -5,13 +5,13 @@ use mathlib.Core.List.{List}
 use Prim.Native.Nat.{ℕ, _+_, _≤_}
 use lib.Dec.{ltb}
 use lib.ListN.{length, take}
-use Rattle.model.specs.Lists.{filled}
 use Rattle.model.specs.Limits.{leastWork}
+use Rattle.model.specs.Lists.{filled}
 use Rattle.model.specs.Edges.{Graph, Bounds}
-use Rattle.model.specs.Entries.{entries}
-use Rattle.renumber.specs.Ranked.{Renumberable}
+use Rattle.model.specs.Computed.Entries.{entries}
 use Rattle.rows.specs.Region.{savedRows, rootRow}
 use Rattle.rows.specs.Rows.{KeepsRows, InRows}
+use Rattle.renumber.specs.Ranked.{Renumberable}
 use Rattle.build.specs.declared.Built.{Built}
 use Rattle.build.specs.declared.Built.the-variants.{Entries, TooMany}
 

@@ -2,10 +2,10 @@
 use mathlib.Core.List.{List}
 use Prim.Native.Nat.{ℕ}
 use lib.ListN.{take, drop}
-use Rattle.model.specs.Lists.{upTo}
 use Rattle.model.specs.Limits.{leastWork}
+use Rattle.model.specs.Lists.{upTo}
 use Rattle.model.specs.Entries.{IsEntry}
-use Rattle.model.specs.Renumber.{Renumbers}
+use Rattle.model.specs.Build.Renumber.{Renumbers}
 use Rattle.rows.specs.Region.{savedRows, rootRow}
 use Rattle.rows.specs.Rows.{InRows}
 use Rattle.staging.specs.Stage.{Stages}

@@ -9,9 +9,11 @@ use native.Mathlib.Omega.{arith}
 use lib.Dec.{eqb, ltb}
 use lib.ListN.{length, getD, take, drop, length-drop, drop-of-length-le}
 use lib.Seq.{drop-cons, getD-take}
-use Rattle.model.specs.Lists.{_∈_, spread, Rising, none, next, Bytes}
 use Rattle.model.specs.Limits.{mostVertices, mostEdges, mostLabel, mostLongest, headBytes}
-use Rattle.model.specs.Edges.{edgeNumber, fromOf, labelOf, toOf, edge?, Bounds}
+use Rattle.model.specs.Lists.{_∈_, Rising, none, next, Bytes}
+use Rattle.model.specs.Edges.{edgeNumber, fromOf, labelOf, toOf, Bounds}
+use Rattle.model.specs.Computed.Lists.{spread}
+use Rattle.model.specs.Computed.Edges.{edge?}
 use Rattle.model.proofs.Tests.{Tests, test-map, test-and, test-le, test-lt, test-eq, test-same, test-true, test-false, test-yields}
 use Rattle.model.proofs.Lists.{in-getD}
 use Rattle.model.proofs.Edges.{edge-fields, test-edge}

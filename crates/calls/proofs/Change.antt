@@ -7,11 +7,12 @@ use native.Mathlib.Decide.{decLt}
 use native.Mathlib.Omega.{arith}
 use lib.Dec.{T}
 use lib.ListN.{length}
-use Rattle.model.specs.Lists.{filled, zeroed}
 use Rattle.model.specs.Limits.{mostLabel, leastWork}
-use Rattle.model.specs.Edges.{edgeMemory?, Bounds}
+use Rattle.model.specs.Lists.{filled, zeroed}
+use Rattle.model.specs.Edges.{Bounds}
 use Rattle.model.specs.Replies.{numberOf, answerOf}
-use Rattle.model.specs.Entries.{determined}
+use Rattle.model.specs.Computed.Edges.{edgeMemory?}
+use Rattle.model.specs.Computed.Entries.{determined}
 use Rattle.model.specs.declared.Refusal.{Refusal}
 use Rattle.model.specs.declared.Answer.{Answer}
 use Rattle.model.specs.declared.Answer.the-variants.{Accepted, Refused}

@@ -7,7 +7,7 @@ use native.Mathlib.Omega.{arith}
 use lib.Dec.{T}
 use lib.ListN.{length}
 use Rattle.model.specs.Lists.{filled, zeroed}
-use Rattle.model.specs.Entries.{determined}
+use Rattle.model.specs.Computed.Entries.{determined}
 use Rattle.calls.specs.Checks.{Check, firstRefusal}
 use Rattle.calls.specs.Call.{Header, graphOf, Memory, Outcome, refusing}
 use Rattle.calls.specs.Change.{Returned, refusedWith, fits?, settle}

@@ -4,9 +4,10 @@ use mathlib.Core.List.{List, [], _∷_, _++_}
 use Prim.Native.Nat.{ℕ, suc, _+_, _-_, _*_, _/_, _%_}
 use lib.Dec.{eqb, ltb, leb}
 use lib.ListN.{length, getD, take, drop}
-use Rattle.model.specs.Lists.{same?, spread}
 use Rattle.model.specs.Limits.{mostEdges, headBytes, tripleBytes}
-use Rattle.model.specs.Edges.{edgeNumber, fromOf, labelOf, toOf, label?, edgeMemory?, standing}
+use Rattle.model.specs.Edges.{edgeNumber, fromOf, labelOf, toOf, standing}
+use Rattle.model.specs.Computed.Lists.{same?, spread}
+use Rattle.model.specs.Computed.Edges.{label?, edgeMemory?}
 use Rattle.calls.specs.Checks.{vertices?, longest?, ends?, Check, firstRefusal}
 use Rattle.calls.specs.Call.{Header, Memory, Outcome, refusing}
 use Rattle.calls.specs.Change.{Returned, refusedWith, buildRoom?, settle}

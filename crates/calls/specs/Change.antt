@@ -4,10 +4,11 @@ use mathlib.Core.List.{List, [], _∷_, _++_}
 use Prim.Native.Nat.{ℕ, _+_}
 use lib.Dec.{ltb, leb}
 use lib.ListN.{length}
-use Rattle.model.specs.Lists.{mem?, filled, zeroed}
 use Rattle.model.specs.Limits.{mostEdges, leastWork}
-use Rattle.model.specs.Edges.{edgeNumber, label?, edgeMemory?, standing, insertEdge, removeEdge}
-use Rattle.model.specs.Entries.{determined}
+use Rattle.model.specs.Lists.{mem?, filled, zeroed}
+use Rattle.model.specs.Edges.{edgeNumber, standing}
+use Rattle.model.specs.Computed.Edges.{label?, edgeMemory?, insertEdge, removeEdge}
+use Rattle.model.specs.Computed.Entries.{determined}
 use Rattle.calls.specs.Checks.{vertices?, longest?, ends?, Check, firstRefusal}
 use Rattle.calls.specs.Call.{Header, graphOf, Memory, cleared, Outcome, refusing}
 

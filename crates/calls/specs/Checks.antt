@@ -3,8 +3,8 @@ use mathlib.Core.Bool.{Bool, _&&_, cond}
 use mathlib.Core.List.{List, [], _∷_}
 use Prim.Native.Nat.{ℕ}
 use lib.Dec.{ltb}
-use Rattle.model.specs.Lists.{within?}
 use Rattle.model.specs.Limits.{mostVertices, mostLongest}
+use Rattle.model.specs.Computed.Lists.{within?}
 
 -- Each condition is here the test that a call must pass. (3 is the model's `edgeMemory?`, 11 its `keyed?`.)
 

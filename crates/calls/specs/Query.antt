@@ -2,8 +2,9 @@
 use mathlib.Core.Bool.{Bool, true, false}
 use mathlib.Core.List.{List, [], _∷_}
 use Prim.Native.Nat.{ℕ}
-use Rattle.model.specs.Patterns.{keyed?, minRepeat}
-use Rattle.model.specs.Query.{indexMemory?, answers?, Answered, Yes, No, Refused}
+use Rattle.model.specs.Query.{Answered, Yes, No, Refused}
+use Rattle.model.specs.Computed.Patterns.{keyed?, minRepeat}
+use Rattle.model.specs.Computed.Query.{indexMemory?, answers?}
 use Rattle.calls.specs.Checks.{vertices?, longest?, ends?, firstRefusal}
 use Rattle.calls.specs.Call.{Header, Memory, Outcome, refusing}
 

@@ -4,9 +4,11 @@ use Prim.Native.Nat.{ℕ}
 use lib.Dec.{leb}
 use lib.ListN.{length}
 use Rattle.model.specs.Limits.{leastWork}
-use Rattle.model.specs.Edges.{edgeMemory?, standing}
-use Rattle.model.specs.Patterns.{keyed?, minRepeat}
-use Rattle.model.specs.Levels.{Reply, Refused, levelReply}
+use Rattle.model.specs.Edges.{standing}
+use Rattle.model.specs.States.{Reply, Refused}
+use Rattle.model.specs.Computed.Edges.{edgeMemory?}
+use Rattle.model.specs.Computed.Patterns.{keyed?, minRepeat}
+use Rattle.model.specs.Computed.Levels.{levelReply}
 use Rattle.calls.specs.Checks.{vertices?, longest?, ends?, firstRefusal}
 use Rattle.calls.specs.Call.{Header, graphOf, Memory, cleared, Outcome, refusing}
 

@@ -9,9 +9,9 @@ use lib.Seq.{take-at, drop-at, getD-drop}
 use Rattle.model.specs.Limits.{headBytes, tripleBytes}
 use Rattle.model.specs.Lists.{filled, zeroed}
 use Rattle.model.proofs.Lists.{part-all}
+use Rattle.edges.proofs.Mix.{Mixed, front-turn}
 use Rattle.calls.specs.Card.{edgeAt, edgesOf}
 use Rattle.calls.proofs.Card.{length-edges, getD-edges}
-use Rattle.edges.proofs.Mix.{Mixed, front-turn}
 use Rattle.card.specs.Card.{Fillable}
 
 -- behind a part that reaches to the end there is nothing

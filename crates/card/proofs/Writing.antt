@@ -6,16 +6,16 @@ use native.Mathlib.Omega.{arith}
 use lib.ListN.{length, getD, take, drop, set, length-drop, List·getD-append}
 use lib.Seq.{drop-drop}
 use Rattle.model.specs.Limits.{headBytes, tripleBytes}
-use Rattle.model.specs.Lists.{spread}
 use Rattle.model.specs.Edges.{fromOf, labelOf, toOf}
+use Rattle.model.specs.Computed.Lists.{spread}
 use Rattle.model.proofs.Tests.{test-yields}
-use Rattle.model.proofs.Edges.{test-edge}
 use Rattle.model.proofs.Lists.{getD-in, part-all}
+use Rattle.model.proofs.Edges.{test-edge}
+use Rattle.edges.proofs.Mix.{Mixed, front-turn}
+use Rattle.edges.proofs.Copying.{save-start, save-end}
 use Rattle.calls.specs.Call.{Header}
 use Rattle.calls.specs.Card.{edgeBytes, cardOf}
 use Rattle.calls.proofs.Card.{length-bytes, getD-bytes}
-use Rattle.edges.proofs.Mix.{Mixed, front-turn}
-use Rattle.edges.proofs.Copying.{save-start, save-end}
 use Rattle.card.specs.Card.{headOf, Body, Writable}
 use Rattle.card.proofs.Filling.{part-last}
 

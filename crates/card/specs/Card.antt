@@ -4,15 +4,16 @@ use mathlib.Core.Bool.{true}
 use mathlib.Core.List.{List, [], _∷_, _++_}
 use Prim.Native.Nat.{ℕ, _+_, _-_, _*_, _≤_, _<_}
 use lib.ListN.{length}
-use Rattle.model.specs.Lists.{_∈_}
 use Rattle.model.specs.Limits.{mostEdges, headBytes, tripleBytes}
-use Rattle.model.specs.Edges.{Bounds, fromOf, edge?}
+use Rattle.model.specs.Lists.{_∈_}
+use Rattle.model.specs.Edges.{Bounds, fromOf}
 use Rattle.model.specs.Replies.{numberOf}
+use Rattle.model.specs.Computed.Edges.{edge?}
 use Rattle.calls.specs.Call.{Header, Memory}
 use Rattle.calls.specs.Card.{mark, wordBytes, headerOf, countOf, cardRefusal, writeRefusal}
+use Rattle.checks.specs.LayoutChecks.{LayoutPasses}
 use Rattle.checks.specs.declared.Standing.{Standing}
 use Rattle.checks.specs.declared.Standing.the-variants.{Edges, Refused as NotStanding}
-use Rattle.checks.specs.LayoutChecks.{LayoutPasses}
 use Rattle.card.specs.declared.Checked.{Checked}
 use Rattle.card.specs.declared.Checked.the-variants.{Layout, Refused}
 

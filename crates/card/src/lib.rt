@@ -8,7 +8,8 @@ ghost use mathlib.Core.List.{[], _++_};
 ghost use Prim.Native.Nat.{_+_, _*_, _%_, _≤_, _<_};
 ghost use lib.ListN.{length, drop};
 ghost use Rattle.model.specs.Limits.{headBytes, tripleBytes};
-ghost use Rattle.model.specs.Lists.{filled, spread};
+ghost use Rattle.model.specs.Lists.{filled};
+ghost use Rattle.model.specs.Computed.Lists.{spread};
 ghost use Rattle.calls.specs.Card.{marked?, wordAt, edgeBytes, edgeAt, edgeAt?, edgesOf, risingTriples?, cardEdges?, cardOf};
 ghost use Rattle.card.specs.Card.{CardChecks, WriteChecks, Fillable, Head, headOf, Body, Writable};
 

@@ -5,16 +5,17 @@ use mathlib.Core.Bool.{true}
 use Prim.Native.Nat.{ℕ, _+_, _-_}
 use native.Mathlib.Omega.{arith}
 use Rattle.model.specs.Lists.{zeroed}
-use Rattle.model.specs.Edges.{edgeNumber, edge?, standing, insertEdge, removeEdge}
+use Rattle.model.specs.Edges.{edgeNumber, standing}
 use Rattle.model.specs.Replies.{numberOf}
+use Rattle.model.specs.Computed.Edges.{edge?, insertEdge, removeEdge}
 use Rattle.model.specs.declared.Refusal.{Refusal}
-use Rattle.model.proofs.Edges.{edge-fields, test-edge}
 use Rattle.model.proofs.Tests.{test-true}
+use Rattle.model.proofs.Edges.{edge-fields, test-edge}
 use Rattle.edges.proofs.Memory.{length-insert, member-insert, rising-insert, length-remove, member-remove, rising-remove}
 use Rattle.calls.specs.Call.{Header, Memory, Meets}
 use Rattle.calls.specs.Change.{refusedWith, answers, settle, openRefusal, openCall, insertRefusal, insertCall, removeRefusal, removeCall}
-use Rattle.calls.proofs.Change.{ChangeGood, change-refused}
 use Rattle.calls.proofs.Calls.{accepted-is}
+use Rattle.calls.proofs.Change.{ChangeGood, change-refused}
 use Rattle.named.specs.Named.{Places, Takes}
 use Rattle.named.proofs.Naming.{good, memory, places-absent, takes-present}
 use Rattle.changes.proofs.Trying.{Wanted}

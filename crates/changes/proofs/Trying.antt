@@ -6,15 +6,16 @@ use Prim.Native.Nat.{ℕ, _+_, _≤_}
 use native.Mathlib.Omega.{arith}
 use lib.ListN.{length, take, drop}
 use lib.Seq.{take-at}
-use Rattle.model.specs.Lists.{_∈_, Rising, filled}
 use Rattle.model.specs.Limits.{mostEdges, leastWork}
-use Rattle.model.specs.Edges.{edge?, Bounds}
+use Rattle.model.specs.Lists.{_∈_, Rising, filled}
+use Rattle.model.specs.Edges.{Bounds}
+use Rattle.model.specs.Computed.Edges.{edge?}
 use Rattle.model.proofs.Memory.{length-filled}
-use Rattle.rows.specs.Region.{savedNumbers}
 use Rattle.calls.specs.Call.{Header, Memory, lent, Meets}
 use Rattle.calls.specs.Change.{answers, settle}
 use Rattle.calls.specs.Card.{noRecord}
 use Rattle.calls.proofs.Change.{settle-same}
+use Rattle.rows.specs.Region.{savedNumbers}
 use Rattle.settle.specs.Settle.{savedIn, Saves, Settleable}
 
 -- n wanted edges, and memory as the call finds it

@@ -2,8 +2,9 @@
 use mathlib.Core.Path.{_≡_, _∙_}
 use mathlib.Core.List.{List, [], _∷_}
 use Prim.Native.Nat.{ℕ}
-use Rattle.model.specs.Edges.{edgeMemory?, Bounds}
+use Rattle.model.specs.Edges.{Bounds}
 use Rattle.model.specs.Replies.{numberOf}
+use Rattle.model.specs.Computed.Edges.{edgeMemory?}
 use Rattle.model.specs.declared.Refusal.{Refusal}
 use Rattle.model.proofs.Replies.{number-some}
 use Rattle.edges.proofs.Memory.{Scans, scans}

@@ -2,8 +2,8 @@
 use mathlib.Core.Path.{_≡_}
 use mathlib.Core.List.{List, [], _∷_}
 use Prim.Native.Nat.{ℕ}
-use Rattle.model.specs.Edges.{edgeMemory?}
 use Rattle.model.specs.Replies.{numberOf}
+use Rattle.model.specs.Computed.Edges.{edgeMemory?}
 use Rattle.edges.specs.Memory.{scanOf}
 use Rattle.edges.specs.declared.Scanned.the-variants.{Edges as ScannedEdges}
 use Rattle.calls.specs.Checks.{vertices?, longest?, firstRefusal}

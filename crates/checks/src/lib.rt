@@ -7,9 +7,9 @@ ghost use mathlib.Core.Path.{_≡_};
 ghost use mathlib.Core.Bool.{Bool};
 ghost use Prim.Native.Nat.{_+_};
 ghost use lib.Dec.{leb};
-ghost use Rattle.model.specs.Replies.{answerOf};
-ghost use Rattle.model.specs.Edges.{label?};
 ghost use Rattle.model.specs.Limits.{leastWork};
+ghost use Rattle.model.specs.Replies.{answerOf};
+ghost use Rattle.model.specs.Computed.Edges.{label?};
 ghost use Rattle.calls.specs.Checks.{headerRefusal, longest?, ends?};
 ghost use Rattle.checks.specs.LayoutChecks.{Layouts};
 

@@ -5,8 +5,8 @@ use Prim.Native.Nat.{ℕ, _+_, _≤_, _<_}
 use native.Mathlib.Omega.{arith}
 use native.Mathlib.Decide.{ℕ-discrete, decLt}
 use Rattle.model.specs.Limits.{mostVertices}
-use Rattle.rows.specs.Rows.{On, KeepsRows, NextVertex, StepsTo, Domain}
 use Rattle.rows.specs.Region.{openRow, todoRow}
+use Rattle.rows.specs.Rows.{On, KeepsRows, NextVertex, StepsTo, Domain}
 use Rattle.rows.proofs.Rows.{keeps-none, keeps-as, keeps-then, keeps-domain}
 use Rattle.closure.specs.Closing.{Plus, one, Closes}
 use Rattle.closure.specs.Turns.{WholeRow, ClosesRow}

@@ -6,8 +6,8 @@ use Prim.Native.Nat.{ℕ, _<_}
 use native.Mathlib.Omega.{arith}
 use native.Mathlib.Decide.{ℕ-discrete}
 use Rattle.model.specs.Limits.{mostVertices}
-use Rattle.rows.specs.Rows.{cell, On, KeepsRows, Becomes, NextVertex, StepsTo}
 use Rattle.rows.specs.Region.{openRow, todoRow}
+use Rattle.rows.specs.Rows.{cell, On, KeepsRows, Becomes, NextVertex, StepsTo}
 use Rattle.rows.proofs.Rows.{cell-lt, cell-cases, next-none, keeps-none, keeps-as, keeps-then, keeps-cell, keeps-step, keeps-steps}
 use Rattle.closure.specs.Closing.{Plus, one}
 use Rattle.closure.specs.Turns.{WholeRow, RowClosable, Beside, ClosesRow, TakesIn}

@@ -6,8 +6,8 @@ use Prim.Native.Nat.{ℕ, _<_}
 use native.Mathlib.Omega.{arith}
 use native.Mathlib.Decide.{ℕ-discrete}
 use Rattle.model.specs.Limits.{mostVertices}
-use Rattle.rows.specs.Rows.{cell, On, KeepsRows, Becomes, StepsTo}
 use Rattle.rows.specs.Region.{openRow}
+use Rattle.rows.specs.Rows.{cell, On, KeepsRows, Becomes, StepsTo}
 use Rattle.rows.proofs.Rows.{on-dec, keeps-as, keeps-then, keeps-cell, keeps-step}
 use Rattle.closure.specs.Turns.{Beside, TakesIn}
 

@@ -3,8 +3,8 @@ use mathlib.Core.List.{List}
 use mathlib.Core.Logic.{_↔_, _≢_}
 use Prim.Native.Nat.{ℕ, _≤_}
 use Rattle.model.specs.Limits.{mostVertices}
-use Rattle.rows.specs.Rows.{KeepsRows, StepsTo}
 use Rattle.rows.specs.Region.{openRow, todoRow}
+use Rattle.rows.specs.Rows.{KeepsRows, StepsTo}
 
 -- one step of R or more
 pub data Plus (R : ℕ → ℕ → Type 0) : ℕ → ℕ → Type 0 where

@@ -4,8 +4,8 @@ use mathlib.Core.List.{List}
 use mathlib.Core.Logic.{_⊎_, _↔_, _≢_}
 use Prim.Native.Nat.{ℕ, _<_}
 use Rattle.model.specs.Limits.{mostVertices}
-use Rattle.rows.specs.Rows.{On, KeepsRows, StepsTo, Domain}
 use Rattle.rows.specs.Region.{openRow, todoRow}
+use Rattle.rows.specs.Rows.{On, KeepsRows, StepsTo, Domain}
 use Rattle.closure.specs.Closing.{Plus}
 
 -- row a has every step of its vertices

@@ -7,13 +7,15 @@ use Prim.Native.Nat.{ℕ, suc, _+_, _*_, _≤_, _<_}
 use native.Mathlib.Omega.{arith}
 use lib.Dec.{eqb, leb, ltb}
 use lib.ListN.{length}
-use Rattle.model.specs.Lists.{_∈_, keep, mem?, filled}
 use Rattle.model.specs.Limits.{mostVertices, mostEdges, mostLabel, mostLongest, fromUnit, leastWork}
-use Rattle.model.specs.Edges.{edgeNumber, edge?, label?, edgeMemory?, standing, insertEdge, removeEdge}
-use Rattle.model.specs.Entries.{determined}
+use Rattle.model.specs.Lists.{_∈_, keep, mem?, filled}
+use Rattle.model.specs.Edges.{edgeNumber, standing}
+use Rattle.model.specs.Computed.Edges.{edge?, label?, edgeMemory?, insertEdge, removeEdge}
+use Rattle.model.specs.Computed.Entries.{determined}
 use Rattle.model.proofs.Tests.{Tests, test-true, test-false, test-yields, test-fails, test-map, test-agree, test-not, test-and, test-eq, test-le, test-lt, test-mem}
 use Rattle.model.proofs.Lists.{keep-in, keep-out}
 use Rattle.model.proofs.Edges.{edge-fields, test-edge}
+use Rattle.model.proofs.Insertion.{length-insert, member-insert, rising-insert, length-remove, member-remove, rising-remove}
 use Rattle.model.proofs.Memory.{edge-least, standing-filled, filled-memory}
 use Rattle.calls.specs.Checks.{ends?, Check, firstRefusal}
 use Rattle.calls.specs.Call.{Memory, graphOf}
@@ -21,7 +23,6 @@ use Rattle.calls.specs.Change.{changeChecks, fits?, insertCall, insertRefusal, 
 use Rattle.calls.proofs.Checks.{test-ends}
 use Rattle.calls.proofs.Settling.{settledChange, settled}
 use Rattle.calls.proofs.Passing.{passing}
-use Rattle.model.proofs.Insertion.{length-insert, member-insert, rising-insert, length-remove, member-remove, rising-remove}
 use Rattle.demands.specs.Ledger.{Book, Fed, insertion, removal, rising, bookEntries, narrow, full, namedNumber, inserted, insertionNumber, removed, removalNumber, shows, turn}
 use Rattle.demands.specs.Station.{Call, memoryOf, fedBy}
 use Rattle.demands.proofs.Rising.{EdgesOf, edge-below, rising-rises, rising-in, rising-out, rising-is}

@@ -7,24 +7,25 @@ use native.Mathlib.Omega.{arith}
 use lib.Dec.{leb}
 use lib.ListN.{length, take, drop}
 use lib.Seq.{take-append-seam}
-use Rattle.model.specs.Lists.{filled, Bytes}
 use Rattle.model.specs.Limits.{mostEdges, leastWork, headBytes, tripleBytes}
-use Rattle.model.specs.Edges.{edgeMemory?, standing}
-use Rattle.model.specs.Entries.{determined}
+use Rattle.model.specs.Lists.{filled, Bytes}
+use Rattle.model.specs.Edges.{standing}
+use Rattle.model.specs.Computed.Edges.{edgeMemory?}
+use Rattle.model.specs.Computed.Entries.{determined}
 use Rattle.model.proofs.Tests.{test-true, test-le}
-use Rattle.model.proofs.Zeros.{filled-within}
 use Rattle.model.proofs.Memory.{edge-memory, edge-least, standing-filled, filled-memory}
+use Rattle.model.proofs.Zeros.{filled-within}
 use Rattle.calls.specs.Checks.{vertices?, longest?, Check, firstRefusal}
 use Rattle.calls.specs.Call.{Header, graphOf, Memory, Outcome}
 use Rattle.calls.specs.Change.{buildRoom?, fits?}
 use Rattle.calls.specs.Card.{headerOf, countOf, edgesOf, cardOf, cardChecks, cardRefusal, readRefusal, noRecord, readCall, Wrote, Length, writeRefusal, writeCall}
 use Rattle.calls.proofs.Checks.{none, pass, first-is, bounded, bounds-pass}
 use Rattle.calls.proofs.Change.{pass-first}
+use Rattle.calls.proofs.Card.{card-good, Cardable, CardSays, card-says, card-again}
 use Rattle.calls.proofs.Settling.{settledChange, settled}
 use Rattle.calls.proofs.Passing.{passing}
-use Rattle.calls.proofs.Card.{card-good, Cardable, CardSays, card-says, card-again}
-use Rattle.demands.specs.Demand2.{Roomy, Restores, Demand2}
 use Rattle.demands.specs.Demand3.{standingGraph}
+use Rattle.demands.specs.Demand2.{Roomy, Restores, Demand2}
 use Rattle.demands.proofs.Demand1.{kind, numberIn}
 use Rattle.demands.proofs.Demand3.{agreed}
 use Rattle.demands.proofs.Reading.{Said, read-said}

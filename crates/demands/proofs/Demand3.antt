@@ -6,9 +6,9 @@ use Prim.Native.Nat.{ℕ, zero, suc}
 use lib.Dec.{T}
 use lib.ListN.{length}
 use Rattle.model.specs.Lists.{_∈_, keep, filled}
-use Rattle.model.specs.Edges.{Small}
-use Rattle.model.specs.Order.{counted}
-use Rattle.model.specs.Entries.{determined}
+use Rattle.model.specs.Computed.Edges.{Small}
+use Rattle.model.specs.Computed.Order.{counted}
+use Rattle.model.specs.Computed.Entries.{determined}
 use Rattle.model.proofs.Tests.{test-true}
 use Rattle.model.proofs.Patterns.{test-keyed}
 use Rattle.model.proofs.Order.{counted-names}

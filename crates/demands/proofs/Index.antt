@@ -8,18 +8,22 @@ use native.Mathlib.Omega.{arith}
 use lib.Dec.{T}
 use lib.ListN.{length}
 use Rattle.model.specs.Lists.{_∈_, keep, Rising, filled}
-use Rattle.model.specs.Edges.{Graph, Small, standing}
-use Rattle.model.specs.Patterns.{Keyed, keyed?, code, minRepeat}
+use Rattle.model.specs.Edges.{Graph, standing}
+use Rattle.model.specs.Patterns.{Keyed, code}
 use Rattle.model.specs.Walks.{Runs}
 use Rattle.model.specs.Order.{Names}
-use Rattle.model.specs.Entries.{Asked, IsEntry, entries}
-use Rattle.model.specs.Query.{digits, code?, OfEntry, entry?, risingEntries?, indexMemory?, answers?}
+use Rattle.model.specs.Entries.{Asked, IsEntry}
+use Rattle.model.specs.Query.{OfEntry}
+use Rattle.model.specs.Computed.Edges.{Small}
+use Rattle.model.specs.Computed.Patterns.{keyed?, minRepeat}
+use Rattle.model.specs.Computed.Entries.{entries}
+use Rattle.model.specs.Computed.Query.{digits, code?, entry?, risingEntries?, indexMemory?, answers?}
 use Rattle.model.proofs.Tests.{test-true, test-false, test-yields}
 use Rattle.model.proofs.Lists.{keep-out, sorted-keep}
 use Rattle.model.proofs.Patterns.{min-repeat-unique, folded}
-use Rattle.model.proofs.Memory.{standing-filled}
 use Rattle.model.proofs.Entries.{entries-out, entries-rise}
 use Rattle.model.proofs.Query.{test-answers, right, struck-out}
+use Rattle.model.proofs.Memory.{standing-filled}
 use Rattle.model.proofs.Zeros.{rising-zeros, Ordered}
 use Rattle.model.proofs.IndexMemory.{test-entry, index-memory, answers-alone}
 use Rattle.model.proofs.Memories.{test-of-entry}

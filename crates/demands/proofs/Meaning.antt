@@ -8,16 +8,17 @@ use native.Mathlib.Omega.{arith}
 use lib.Dec.{leb}
 use lib.ListN.{length}
 use Rattle.model.specs.Limits.{leastWork}
-use Rattle.model.specs.Edges.{Graph, Bounds, Small, edgeMemory?, standing}
-use Rattle.model.specs.Patterns.{keyed?, minRepeat}
-use Rattle.model.specs.Order.{counted}
-use Rattle.model.specs.Entries.{determined}
+use Rattle.model.specs.Edges.{Graph, Bounds, standing}
+use Rattle.model.specs.Computed.Edges.{Small, edgeMemory?}
+use Rattle.model.specs.Computed.Patterns.{keyed?, minRepeat}
+use Rattle.model.specs.Computed.Order.{counted}
+use Rattle.model.specs.Computed.Entries.{determined}
 use Rattle.model.proofs.Tests.{Tests, test-true, test-yields}
 use Rattle.model.proofs.Patterns.{test-keyed, min-repeat, min-repeat-unique, folded}
 use Rattle.model.proofs.Walks.{runs-spells, spells-runs}
-use Rattle.model.proofs.Order.{counted-sorted, counted-names}
 use Rattle.model.proofs.Levels.{state-zero, level-zero, level-iff}
 use Rattle.model.proofs.Search.{told, decides}
+use Rattle.model.proofs.Order.{counted-sorted, counted-names}
 use Rattle.model.proofs.Entries.{entries-in, entries-out, entries-rise}
 use Rattle.model.proofs.Query.{test-answers}
 use Rattle.model.proofs.Codes.{test-code}

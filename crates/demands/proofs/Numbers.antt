@@ -5,7 +5,7 @@ use mathlib.Core.List.{List, [], _∷_}
 use Prim.Native.Nat.{ℕ}
 use native.Mathlib.Omega.{arith}
 use lib.Dec.{ltb, leb}
-use Rattle.model.specs.Lists.{within?}
+use Rattle.model.specs.Computed.Lists.{within?}
 use Rattle.model.proofs.Tests.{test-map, test-agree, test-not, test-le, test-lt}
 use Rattle.calls.specs.Checks.{Check, firstRefusal}
 use Rattle.demands.specs.Ledger.{when, outside}

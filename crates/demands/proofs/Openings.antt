@@ -6,12 +6,14 @@ use Prim.Native.Nat.{ℕ, _-_, _≤_}
 use native.Mathlib.Omega.{arith}
 use lib.Dec.{leb, ltb}
 use lib.ListN.{length, replicate}
-use Rattle.model.specs.Lists.{_∈_, zeroed, filled}
 use Rattle.model.specs.Limits.{mostVertices, mostEdges, mostLongest}
-use Rattle.model.specs.Edges.{Graph, Small}
+use Rattle.model.specs.Lists.{_∈_, zeroed, filled}
+use Rattle.model.specs.Edges.{Graph}
 use Rattle.model.specs.Walks.{Spells, edge, Runs, once, more}
-use Rattle.model.specs.Order.{counted}
-use Rattle.model.specs.Entries.{IsEntry, determined}
+use Rattle.model.specs.Entries.{IsEntry}
+use Rattle.model.specs.Computed.Edges.{Small}
+use Rattle.model.specs.Computed.Order.{counted}
+use Rattle.model.specs.Computed.Entries.{determined}
 use Rattle.model.proofs.Tests.{test-yields, test-le}
 use Rattle.model.proofs.Entries.{entries-out}
 use Rattle.calls.specs.Checks.{Check, vertices?, longest?, firstRefusal}

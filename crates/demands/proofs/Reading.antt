@@ -6,18 +6,19 @@ use Prim.Native.Nat.{ℕ, _≤_}
 use native.Mathlib.Omega.{arith}
 use lib.Dec.{leb}
 use lib.ListN.{length, drop}
-use Rattle.model.specs.Lists.{_∈_, Rising, Bytes}
 use Rattle.model.specs.Limits.{mostEdges, headBytes}
-use Rattle.model.specs.Edges.{Bounds, edge?}
+use Rattle.model.specs.Lists.{_∈_, Rising, Bytes}
+use Rattle.model.specs.Edges.{Bounds}
+use Rattle.model.specs.Computed.Edges.{edge?}
 use Rattle.model.proofs.Tests.{test-yields, test-le}
 use Rattle.calls.specs.Checks.{Check}
 use Rattle.calls.specs.Call.{Memory}
 use Rattle.calls.specs.Change.{buildRoom?, fits?}
 use Rattle.calls.specs.Card.{headerOf, countOf, edgesOf, cardChecks, cardRefusal, readRefusal, noRecord, readCall}
 use Rattle.calls.proofs.Checks.{none, pass}
+use Rattle.calls.proofs.Card.{card-is, triples-good, card-good, card-vertices}
 use Rattle.calls.proofs.Settling.{settledChange, settled, accepted-zero}
 use Rattle.calls.proofs.Passing.{passing}
-use Rattle.calls.proofs.Card.{card-is, triples-good, card-good, card-vertices}
 
 -- what is known of a card that was read
 pub record Said (card : List ℕ) (m : Memory) : Type 0 where

@@ -9,22 +9,22 @@ use native.Mathlib.Omega.{arith}
 use lib.Dec.{ltb}
 use lib.ListN.{length, take}
 use lib.Seq.{take-append-seam}
-use Rattle.model.specs.Lists.{_∈_, mem?, next, Rising, Bytes}
 use Rattle.model.specs.Limits.{mostVertices, mostEdges, mostLabel, mostLongest, fromUnit, leastWork}
+use Rattle.model.specs.Lists.{_∈_, mem?, next, Rising, Bytes}
 use Rattle.model.specs.Edges.{edgeNumber, fromOf, labelOf, toOf}
 use Rattle.model.proofs.Tests.{test-false, test-yields, test-or, test-lt, test-le, test-mem}
-use Rattle.model.proofs.Edges.{IsEdge, test-edge}
 use Rattle.model.proofs.Lists.{sorted-imp}
+use Rattle.model.proofs.Edges.{IsEdge, test-edge}
 use Rattle.model.proofs.Counting.{no-more, rising-same}
-use Rattle.demands.specs.Ledger.{opening, insertion, card, Fed, Book, rising, bookEntries, when, outside, full, openingNumber, namedNumber, inserted, insertionNumber, cardBook, shows, LedgerReply, Turn, turn, Account, ledger}
 use Rattle.calls.proofs.Card.{card-good}
+use Rattle.demands.specs.Ledger.{opening, insertion, card, Fed, Book, rising, bookEntries, when, outside, full, openingNumber, namedNumber, inserted, insertionNumber, cardBook, shows, LedgerReply, Turn, turn, Account, ledger}
 use Rattle.demands.specs.Station.{Call, Station, memoryOf, changeOn, after, fedBy}
 use Rattle.demands.specs.Demand3.{blank, by-opening, by-card}
 use Rattle.demands.specs.Demand2.{receiving, Suffices, Receives}
 use Rattle.demands.proofs.Rising.{edge-below, rising-rises, rising-in, rising-out}
 use Rattle.demands.proofs.Steps.{stationOf, Fine}
-use Rattle.demands.proofs.Demand3.{begun, first-number, agreed}
 use Rattle.demands.proofs.CardReader.{edges-agree}
+use Rattle.demands.proofs.Demand3.{begun, first-number, agreed}
 use Rattle.demands.proofs.Reading.{read-said}
 
 -- a condition that does not apply

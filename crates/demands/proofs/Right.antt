@@ -7,23 +7,26 @@ use Prim.Native.Nat.{ℕ, suc, _≤_, _<_}
 use native.Mathlib.Omega.{arith}
 use lib.Dec.{leb}
 use lib.ListN.{length}
-use Rattle.model.specs.Lists.{_∈_, filled, zeroed, Bytes}
 use Rattle.model.specs.Limits.{mostEdges}
-use Rattle.model.specs.Edges.{Graph, Bounds, Small, edgeNumber, standing, insertEdge, removeEdge}
-use Rattle.model.specs.Patterns.{Keyed, keyed?, minRepeat}
+use Rattle.model.specs.Lists.{_∈_, filled, zeroed, Bytes}
+use Rattle.model.specs.Edges.{Graph, Bounds, edgeNumber, standing}
+use Rattle.model.specs.Patterns.{Keyed}
 use Rattle.model.specs.Walks.{Runs}
-use Rattle.model.specs.Order.{counted}
-use Rattle.model.specs.Entries.{determined}
-use Rattle.model.specs.Query.{indexMemory?, answers?, Yes, No, Refused}
+use Rattle.model.specs.Query.{Yes, No, Refused}
+use Rattle.model.specs.Computed.Edges.{Small, insertEdge, removeEdge}
+use Rattle.model.specs.Computed.Patterns.{keyed?, minRepeat}
+use Rattle.model.specs.Computed.Order.{counted}
+use Rattle.model.specs.Computed.Entries.{determined}
+use Rattle.model.specs.Computed.Query.{indexMemory?, answers?}
 use Rattle.model.proofs.Tests.{test-true, test-false, test-fails, test-T}
 use Rattle.model.proofs.Patterns.{test-keyed}
-use Rattle.model.proofs.Memory.{edge-least, standing-filled, standing-some, standing-zeroed}
 use Rattle.model.proofs.Insertion.{member-insert, member-left}
+use Rattle.model.proofs.Memory.{edge-least, standing-filled, standing-some, standing-zeroed}
 use Rattle.calls.specs.Checks.{vertices?, longest?, ends?, Check, firstRefusal}
 use Rattle.calls.specs.Call.{Header, graphOf, Memory, lent, Outcome}
+use Rattle.calls.specs.Query.{saying, queryRefusal, queryCall}
 use Rattle.calls.specs.Change.{Returned, changeChecks, changeRefusal, openRefusal, openCall, insertRefusal, insertCall, removeRefusal, removeCall}
 use Rattle.calls.specs.Card.{headerOf, readCall}
-use Rattle.calls.specs.Query.{saying, queryRefusal, queryCall}
 use Rattle.calls.proofs.Checks.{First, none, pass, stop, first-is, bounded, bounds-pass, test-ends}
 use Rattle.calls.proofs.Change.{ChangeGood, change-good, front-passes}
 use Rattle.calls.proofs.Settling.{settledChange, Result, settled, with-number, accepted-zero}

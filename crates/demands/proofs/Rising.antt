@@ -4,9 +4,9 @@ use mathlib.Core.Bool.{true}
 use mathlib.Core.List.{List}
 use Prim.Native.Nat.{ℕ, _*_, _≤_, _<_}
 use native.Mathlib.Omega.{arith}
-use Rattle.model.specs.Lists.{_∈_, mem?, upTo, Rising}
 use Rattle.model.specs.Limits.{mostVertices, fromUnit}
-use Rattle.model.specs.Edges.{edge?}
+use Rattle.model.specs.Lists.{_∈_, mem?, upTo, Rising}
+use Rattle.model.specs.Computed.Edges.{edge?}
 use Rattle.model.proofs.Tests.{test-mem, test-yields}
 use Rattle.model.proofs.Lists.{keep-in, keep-out, up-to, rising-from, sorted-keep}
 use Rattle.model.proofs.Edges.{test-edge}

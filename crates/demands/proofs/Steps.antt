@@ -4,9 +4,9 @@ use mathlib.Core.List.{List}
 use Prim.Native.Nat.{ℕ, zero, suc, _≤_}
 use native.Mathlib.Omega.{arith}
 use lib.ListN.{length}
-use Rattle.model.specs.Edges.{Bounds}
-use Rattle.model.specs.Lists.{filled}
 use Rattle.model.specs.Limits.{mostEdges}
+use Rattle.model.specs.Lists.{filled}
+use Rattle.model.specs.Edges.{Bounds}
 use Rattle.model.proofs.Memory.{length-filled}
 use Rattle.calls.specs.Call.{Header, Memory, Outcome}
 use Rattle.calls.specs.Change.{Returned, refusedWith}

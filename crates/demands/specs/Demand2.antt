@@ -4,17 +4,18 @@ use mathlib.Core.Logic.{_⊎_}
 use mathlib.Core.List.{List, [], _∷_, _++_, map, List·Memᴰ}
 use Prim.Native.Nat.{ℕ, _+_, _≤_, _<_}
 use lib.ListN.{length, take, drop}
-use Rattle.model.specs.Lists.{_∈_, filled, Bytes}
 use Rattle.model.specs.Limits.{mostEdges, leastWork}
+use Rattle.model.specs.Lists.{_∈_, filled, Bytes}
 use Rattle.model.specs.Edges.{Graph, fromOf, labelOf, toOf, standing}
-use Rattle.model.specs.Patterns.{Keyed, minRepeat}
+use Rattle.model.specs.Patterns.{Keyed}
 use Rattle.model.specs.Walks.{Runs}
-use Rattle.model.specs.Entries.{determined}
 use Rattle.model.specs.Query.{Yes, No, Refused}
+use Rattle.model.specs.Computed.Patterns.{minRepeat}
+use Rattle.model.specs.Computed.Entries.{determined}
 use Rattle.calls.specs.Call.{Header, graphOf, Memory, lent, Outcome}
+use Rattle.calls.specs.Query.{queryCall}
 use Rattle.calls.specs.Change.{Returned}
 use Rattle.calls.specs.Card.{readCall, Length, writeCall}
-use Rattle.calls.specs.Query.{queryCall}
 use Rattle.demands.specs.Ledger.{Book, opening, insertion, card, bookEntries, cardBook, ruling, LedgerReply, ledger}
 use Rattle.demands.specs.Station.{Call, Station, changeOn, change, after, run, fedBy, fedAll}
 use Rattle.demands.specs.Demand3.{blank, Begins, standingGraph}

@@ -5,10 +5,10 @@ use mathlib.Core.List.{List, [], _∷_, map}
 use Prim.Native.Nat.{ℕ, zero, suc, _+_, _-_, _*_}
 use lib.Dec.{eqb, ltb, leb}
 use lib.ListN.{length, getD}
-use Rattle.model.specs.Lists.{keep, upTo, any?, mem?, Bytes}
 use Rattle.model.specs.Limits.{mostVertices, mostEdges, mostLabel, mostLongest, fromUnit, leastWork, headBytes, tripleBytes}
+use Rattle.model.specs.Lists.{keep, upTo, any?, mem?, Bytes}
 use Rattle.model.specs.Edges.{edgeNumber}
-use Rattle.model.specs.Entries.{determined}
+use Rattle.model.specs.Computed.Entries.{determined}
 
 -- "It is fed what each call is given: the record of an opening, the leg of a lay or lift, the bytes of a card"
 pub data Given : Type 0 where

@@ -6,15 +6,22 @@ use mathlib.Core.Bool.{true}
 use mathlib.Core.List.{List}
 use Prim.Native.Nat.{ℕ, suc, _≤_, _<_}
 use lib.ListN.{length}
-use Rattle.model.specs.Lists.{_∈_, Sorted, Rising, Padded}
 use Rattle.model.specs.Limits.{mostEdges, enoughLevels, hubUnit}
-use Rattle.model.specs.Edges.{Graph, OfEdge, edgeMemory?, standing}
-use Rattle.model.specs.Patterns.{times, Keyed, keyed?, MinRepeat, minRepeat}
+use Rattle.model.specs.Lists.{_∈_, Sorted, Rising, Padded}
+use Rattle.model.specs.Edges.{Graph, OfEdge, standing}
+use Rattle.model.specs.Patterns.{times, Keyed, MinRepeat}
 use Rattle.model.specs.Walks.{Spells, Runs}
-use Rattle.model.specs.Order.{weight, Before, Names, counted}
-use Rattle.model.specs.Levels.{state, level, Reached, Reply, Told, Decides}
-use Rattle.model.specs.Entries.{IsEntry, determined}
-use Rattle.model.specs.Query.{code?, Coded, OfEntry, indexMemory?, Answers, answers?}
+use Rattle.model.specs.Order.{weight, Before, Names}
+use Rattle.model.specs.Entries.{IsEntry}
+use Rattle.model.specs.Query.{Coded, OfEntry, Answers}
+use Rattle.model.specs.States.{state, Reply}
+use Rattle.model.specs.Computed.Edges.{edgeMemory?}
+use Rattle.model.specs.Computed.Patterns.{keyed?, minRepeat}
+use Rattle.model.specs.Computed.Order.{counted}
+use Rattle.model.specs.Computed.Levels.{level}
+use Rattle.model.specs.Computed.Entries.{determined}
+use Rattle.model.specs.Computed.Query.{code?, indexMemory?, answers?}
+use Rattle.model.specs.Levels.{Reached, Told, Decides}
 use Rattle.calls.specs.Checks.{headerRefusal}
 use Rattle.calls.specs.Call.{Header, graphOf, Memory}
 use Rattle.calls.specs.Search.{searchRefusal, searchCall}

@@ -6,8 +6,8 @@ use native.Mathlib.Omega.{arith}
 use lib.ListN.{length, getD, take, drop, set, length-append, length-drop, length-replicate, getD-replicate, List·getD-append}
 use lib.Seq.{getD-take, getD-drop, getD-append-add, length-take-le}
 use Rattle.model.specs.Lists.{zeroed}
-use Rattle.edges.specs.Memory.{Narrow}
 use Rattle.model.proofs.Lists.{getD-in}
+use Rattle.edges.specs.Memory.{Narrow}
 use Rattle.edges.proofs.Mix.{Mixed, front-none, front-turn, front-end}
 
 pub zero-start : (l : List ℕ) → Mixed (zeroed l) l l 0

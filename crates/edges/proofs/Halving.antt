@@ -8,7 +8,8 @@ use native.Mathlib.Omega.{arith}
 use lib.ListN.{length, getD, take}
 use lib.Seq.{getD-take, length-take-le}
 use borrow.Author.Tests.{lt-ltb, le-ltb}
-use Rattle.model.specs.Lists.{Rising, lowerBound, Bracket}
+use Rattle.model.specs.Lists.{Rising}
+use Rattle.model.specs.Computed.Lists.{lowerBound, Bracket}
 use Rattle.model.proofs.Halving.{bracket-start, bracket-right, bracket-left}
 use Rattle.edges.specs.Memory.{findOf}
 use Rattle.edges.specs.declared.Found.the-variants.{At, Before}

@@ -8,13 +8,15 @@ use native.Mathlib.Decide.{decLt}
 use native.Mathlib.Omega.{arith}
 use lib.ListN.{length, getD, take}
 use borrow.Author.Tests.{eq-eqb, ne-eqb, lt-ltb, le-ltb}
-use Rattle.model.proofs.Memory.{edge-memory}
-use Rattle.model.specs.Lists.{_∈_, Rising, lowerBound}
 use Rattle.model.specs.Limits.{mostEdges}
-use Rattle.model.specs.Edges.{edge?, edgeMemory?, standing}
+use Rattle.model.specs.Lists.{_∈_, Rising}
+use Rattle.model.specs.Edges.{standing}
+use Rattle.model.specs.Computed.Lists.{lowerBound}
+use Rattle.model.specs.Computed.Edges.{edge?, edgeMemory?}
 use Rattle.model.proofs.Tests.{test-dec, test-and, test-eq, test-lt, both-ways}
 use Rattle.model.proofs.Lists.{getD-in}
 use Rattle.model.proofs.Insertion.{placed, placed-most, placed-stands}
+use Rattle.model.proofs.Memory.{edge-memory}
 pub use Rattle.model.proofs.Insertion.{length-insert, member-insert, rising-insert, length-remove, member-remove, rising-remove}
 use Rattle.model.proofs.Zeros.{filled-within, filled-front}
 use Rattle.edges.specs.Memory.{scanOf, findOf, Holds}

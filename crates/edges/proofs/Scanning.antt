@@ -6,7 +6,7 @@ use native.Mathlib.Nat.{zero-add}
 use lib.ListN.{length}
 use borrow.Author.Tests.{le-leb, lt-leb}
 use Rattle.model.specs.Limits.{mostEdges}
-use Rattle.model.specs.Edges.{edge?, risingEdges?, edgeMemory?}
+use Rattle.model.specs.Computed.Edges.{edge?, risingEdges?, edgeMemory?}
 use Rattle.model.proofs.Checked.{checkedFrom}
 use Rattle.edges.specs.Memory.{scanOf}
 use Rattle.edges.specs.declared.Scanned.{Scanned}

@@ -7,13 +7,14 @@ use native.Mathlib.Numerals.{add-one}
 use native.Mathlib.Omega.{arith}
 use lib.ListN.{length, getD, set, replicate, List·getD-eq-default}
 use Rattle.model.specs.Lists.{filled}
-use Rattle.model.specs.Edges.{standing, insertEdge, removeEdge}
-use Rattle.edges.specs.Memory.{Holds, Insertable, Removable}
-use Rattle.edges.proofs.Mix.{Mixed, front-start, front-turn, front-end, back-start, back-turn, back-end}
-use Rattle.model.proofs.Insertion.{Placed, last, here, past, placed, placed-most, Removed, first, later, removed}
-use Rattle.edges.proofs.Memory.{holds-within, length-insert, length-remove}
+use Rattle.model.specs.Edges.{standing}
+use Rattle.model.specs.Computed.Edges.{insertEdge, removeEdge}
 use Rattle.model.proofs.Lists.{getD-in}
+use Rattle.model.proofs.Insertion.{Placed, last, here, past, placed, placed-most, Removed, first, later, removed}
 use Rattle.model.proofs.Memory.{length-filled}
+use Rattle.edges.specs.Memory.{Holds, Insertable, Removable}
+use Rattle.edges.proofs.Memory.{holds-within, length-insert, length-remove}
+use Rattle.edges.proofs.Mix.{Mixed, front-start, front-turn, front-end, back-start, back-turn, back-end}
 
 -- a slot past the last number reads 0, and so do the zeros there
 filled-slot : (m : ℕ) (l : List ℕ) (i : ℕ) → getD (filled m l) i 0 ≡ getD l i 0

@@ -10,9 +10,9 @@ use lib.ListN.{length, getD, drop, set, replicate, length-set, length-replicate,
 use lib.Seq.{getD-set-same, getD-set-other}
 use borrow.Author.Count.{below-more}
 use borrow.Author.Tests.{eq-eqb, ne-eqb}
-use Rattle.model.specs.Lists.{Rising}
 use Rattle.model.specs.Limits.{mostVertices, fromUnit}
-use Rattle.model.specs.Edges.{zeros?}
+use Rattle.model.specs.Lists.{Rising}
+use Rattle.model.specs.Computed.Edges.{zeros?}
 use Rattle.model.proofs.Lists.{rising-le}
 use Rattle.model.proofs.Zeros.{zeros-stop, zeros-more, zeros-end}
 use Rattle.edges.specs.Slots.{Under, Skipped, Starts}

@@ -5,8 +5,10 @@ use mathlib.Core.List.{List}
 use Prim.Native.Nat.{ℕ, _<_, _^_}
 use lib.ListN.{length, getD}
 use lib.Dec.{ltb, eqb}
-use Rattle.model.specs.Lists.{_∈_, lowerBound, filled}
-use Rattle.model.specs.Edges.{edgeMemory?, standing}
+use Rattle.model.specs.Lists.{_∈_, filled}
+use Rattle.model.specs.Edges.{standing}
+use Rattle.model.specs.Computed.Lists.{lowerBound}
+use Rattle.model.specs.Computed.Edges.{edgeMemory?}
 use Rattle.edges.specs.declared.Scanned.{Scanned}
 use Rattle.edges.specs.declared.Scanned.the-variants.{Edges, Invalid}
 use Rattle.edges.specs.declared.Found.{Found}

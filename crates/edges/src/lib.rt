@@ -10,9 +10,10 @@ ghost use Prim.Native.Nat.{_/_, _≤_, _<_};
 ghost use lib.ListN.{length, take, drop};
 ghost use Rattle.model.specs.Limits.{mostVertices, fromUnit, labelUnit};
 ghost use Rattle.model.specs.Lists.{Rising, filled, zeroed};
-ghost use Rattle.model.specs.Edges.{edgeNumber, edge?, zeros?, standing, insertEdge, removeEdge};
-ghost use Rattle.edges.specs.Slots.{Under, Skipped, Starts};
+ghost use Rattle.model.specs.Edges.{edgeNumber, standing};
+ghost use Rattle.model.specs.Computed.Edges.{edge?, zeros?, insertEdge, removeEdge};
 ghost use Rattle.edges.specs.Memory.{scanOf, findOf, Insertable, Removable, Narrow};
+ghost use Rattle.edges.specs.Slots.{Under, Skipped, Starts};
 
 // How many numbers the label's field of an edge number has room for.
 pub const LABELS: u32 = FROM_UNIT / LABEL_UNIT;

@@ -5,19 +5,20 @@ use Prim.Native.Nat.{ℕ, _≤_}
 use native.Mathlib.Omega.{arith}
 use lib.ListN.{length, take}
 use Rattle.model.specs.Limits.{mostLongest}
-use Rattle.model.specs.Patterns.{Keyed, minRepeat, foldedLength}
 use Rattle.model.specs.Edges.{standing}
+use Rattle.model.specs.Patterns.{Keyed}
+use Rattle.model.specs.States.{Refused}
+use Rattle.model.specs.Replies.{numberOf, replyOf}
+use Rattle.model.specs.Computed.Patterns.{minRepeat, foldedLength}
 use Rattle.model.specs.declared.SearchReply.{SearchReply}
+use Rattle.model.specs.declared.Refusal.{Refusal}
 use Rattle.model.proofs.Patterns.{keyed-up, folded-length, folded-take, repeat-long, repeat-short}
 use Rattle.model.proofs.Search.{reply-as}
 use Rattle.edges.proofs.Memory.{Scans}
-use Rattle.checks.proofs.LayoutChecks.{layout-header, layout-memory}
-use Rattle.model.specs.Levels.{Refused}
-use Rattle.model.specs.Replies.{numberOf, replyOf}
-use Rattle.model.specs.declared.Refusal.{Refusal}
 use Rattle.calls.specs.Call.{Header, Memory, Meets}
 use Rattle.calls.specs.Search.{searchRefusal, searchCall}
 use Rattle.calls.proofs.Calls.{refused-meets, accepted-is}
+use Rattle.checks.proofs.LayoutChecks.{layout-header, layout-memory}
 use Rattle.level_search.specs.Run.{SearchPasses, Searchable, Searches}
 
 module _ {h : Header} {s t : ℕ} {pattern : List ℕ} {m : Memory} {n : ℕ} (p : SearchPasses h s t pattern m n) (size : ℕ) (is : size ≡ foldedLength pattern) where

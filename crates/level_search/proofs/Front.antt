@@ -5,8 +5,8 @@ use Prim.Native.Nat.{ℕ, _≤_}
 use native.Mathlib.Omega.{arith}
 use lib.ListN.{length, take, drop, replicate, length-append, length-drop, length-replicate}
 use lib.Seq.{length-take-le, take-at}
-use Rattle.model.specs.Lists.{zeroed}
 use Rattle.model.specs.Limits.{leastWork}
+use Rattle.model.specs.Lists.{zeroed}
 
 module _ (w front : List ℕ) (long : leastWork ≤ length w) (cleared : front ≡ zeroed (take leastWork w)) where
   zeros : front ≡ replicate leastWork 0

@@ -9,7 +9,7 @@ use native.Mathlib.Decide.{decLt, ℕ-discrete}
 use native.Mathlib.Omega.{arith}
 use lib.ListN.{getD, set, length-set}
 use lib.Seq.{getD-set-same, getD-set-other}
-use Rattle.model.specs.Levels.{mostStates}
+use Rattle.model.specs.Computed.Levels.{mostStates}
 use Rattle.level_search.specs.Work.{queue, Room, At, Grown}
 use Rattle.level_search.proofs.Marks.{marks-set, marks-far, marks-le}
 

@@ -9,7 +9,7 @@ use native.Mathlib.Omega.{arith}
 use native.Mathlib.Decide.{decLt}
 use lib.ListN.{length, getD}
 use Rattle.model.specs.Limits.{mostVertices}
-use Rattle.model.specs.Levels.{Leads}
+use Rattle.model.specs.States.{Leads}
 use Rattle.model.proofs.Lists.{getD-in, in-getD}
 use Rattle.level_search.specs.Work.{Ahead, Grown, LedTo, Short, queue}
 use Rattle.level_search.proofs.Grow.{grown-none, grown-then, grown-as}

@@ -10,7 +10,7 @@ use lib.ListN.{length, getD, take, set, replicate, length-take}
 use lib.Seq.{take-set-le, take-set-lt, getD-take}
 use lib.Dec.{eqb}
 use borrow.Author.Tests.{ne-eqb}
-use Rattle.model.specs.Levels.{mostStates}
+use Rattle.model.specs.Computed.Levels.{mostStates}
 use Rattle.level_search.specs.Work.{one, ones, marks}
 
 one-le : (b : Bool) → one b ≤ 1

@@ -9,13 +9,15 @@ use native.Mathlib.Numerals.{add-one}
 use native.Mathlib.Omega.{arith}
 use lib.ListN.{getD, set, replicate, length-set, length-replicate, getD-replicate}
 use lib.Seq.{getD-set-same, getD-set-other}
-use Rattle.model.specs.Lists.{_∈_}
 use Rattle.model.specs.Limits.{mostVertices, leastWork}
-use Rattle.model.specs.Edges.{bare}
-use Rattle.model.specs.Levels.{IsState, Fresh, Reached, vertexOf, mostStates, Leads, stage, level, Yes, No, Spent, replyFrom, levelReply}
+use Rattle.model.specs.Lists.{_∈_}
+use Rattle.model.specs.States.{IsState, vertexOf, Leads, Yes, No, Spent}
+use Rattle.model.specs.Computed.Edges.{bare}
+use Rattle.model.specs.Computed.Levels.{mostStates, stage, level, replyFrom, levelReply}
+use Rattle.model.specs.Levels.{Fresh, Reached}
 use Rattle.model.proofs.Levels.{Met, look, level-zero, level-iff}
-use Rattle.model.proofs.Edges.{edge-to}
 use Rattle.model.proofs.Search.{reply-yes, reply-no, reply-on}
+use Rattle.model.proofs.Edges.{edge-to}
 use Rattle.level_search.specs.Work.{queue, Room, At, Grown, LedTo, Fit, Short}
 use Rattle.level_search.specs.Run.{Searchable, foundBy}
 use Rattle.level_search.proofs.Marks.{marks-far, marks-zero}

@@ -4,18 +4,19 @@ use mathlib.Core.Bool.{true}
 use mathlib.Core.List.{List}
 use Prim.Native.Nat.{ℕ, _≤_, _<_}
 use lib.ListN.{length}
-use Rattle.model.specs.Lists.{_∈_, Rising, zeroed}
 use Rattle.model.specs.Limits.{mostVertices, leastWork}
-use Rattle.model.specs.Edges.{bare, edge?}
+use Rattle.model.specs.Lists.{_∈_, Rising, zeroed}
 use Rattle.model.specs.Patterns.{Keyed}
-use Rattle.model.specs.Levels.{Reply, levelReply}
+use Rattle.model.specs.States.{Reply}
 use Rattle.model.specs.Replies.{numberOf, replyOf}
+use Rattle.model.specs.Computed.Edges.{bare, edge?}
+use Rattle.model.specs.Computed.Levels.{levelReply}
 use Rattle.model.specs.declared.SearchReply.{SearchReply}
 use Rattle.calls.specs.Call.{Header, Memory}
 use Rattle.calls.specs.Search.{searchRefusal}
+use Rattle.checks.specs.LayoutChecks.{LayoutPasses}
 use Rattle.checks.specs.declared.Standing.{Standing}
 use Rattle.checks.specs.declared.Standing.the-variants.{Edges, Refused}
-use Rattle.checks.specs.LayoutChecks.{LayoutPasses}
 use Rattle.level_search.specs.Work.{Short}
 
 -- a search over rising edges of a graph with that many vertices, from one vertex to another, by a pattern of 1 to 4 labels

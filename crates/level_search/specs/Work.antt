@@ -8,7 +8,8 @@ use Prim.Native.Nat.{ℕ, _+_, _*_, _≤_, _<_}
 use lib.ListN.{length, getD, take}
 use lib.Dec.{eqb}
 use Rattle.model.specs.Limits.{mostVertices, mostLongest, labelUnit, leastWork}
-use Rattle.model.specs.Levels.{mostStates, Leads}
+use Rattle.model.specs.States.{Leads}
+use Rattle.model.specs.Computed.Levels.{mostStates}
 
 abbrev pub one : Bool → ℕ
 one true = 1

@@ -11,14 +11,15 @@ ghost use mathlib.Core.Path.{_≡_};
 ghost use mathlib.Core.List.{List, []};
 ghost use Prim.Native.Nat.{ℕ, _+_, _*_, _≤_, _<_, _^_};
 ghost use lib.ListN.{length, getD};
-ghost use Rattle.model.specs.Lists.{Rising, zeroed};
 ghost use Rattle.model.specs.Limits.{mostVertices, labelUnit, leastWork};
-ghost use Rattle.model.specs.Levels.{mostStates, Leads};
+ghost use Rattle.model.specs.Lists.{Rising, zeroed};
+ghost use Rattle.model.specs.States.{Leads};
 ghost use Rattle.model.specs.Replies.{replyOf};
-ghost use Rattle.level_search.specs.Work.{Room, Grown, Ahead, LedTo, Fit, Short};
+ghost use Rattle.model.specs.Computed.Levels.{mostStates};
 ghost use Rattle.edges.specs.Slots.{Under, Starts};
-ghost use Rattle.calls.specs.Search.{searchCall};
 ghost use Rattle.calls.specs.Call.{lent, Meets};
+ghost use Rattle.calls.specs.Search.{searchCall};
+ghost use Rattle.level_search.specs.Work.{Room, Grown, Ahead, LedTo, Fit, Short};
 ghost use Rattle.level_search.specs.Run.{Searchable, foundBy, Searches, SearchChecks};
 
 // Work memory: a mark for each state, then the queue of states reached.
@@ -149,7 +150,15 @@ pub fn run(
     ensures { λ r. ⌜ Searches vertices (now (edges .entry)) (now (pattern .entry)) s t limit (now (work .entry)) r (now (work .exit)) ⌝ }
 {
     edges::clear_work(&mut work[..LEAST_WORK]);
-    let reply = levels(vertices, edges, pattern, s, t, limit, &mut work[..LEAST_WORK]);
+    let reply = levels(
+        vertices,
+        edges,
+        pattern,
+        s,
+        t,
+        limit,
+        &mut work[..LEAST_WORK],
+    );
     edges::clear_work(work);
     reply
 }

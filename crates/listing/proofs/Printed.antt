@@ -13,10 +13,10 @@ use Rattle.model.proofs.Replies.{number-some}
 use Rattle.calls.specs.Call.{lent, Outcome, Meets}
 use Rattle.calls.specs.Change.{Returned}
 use Rattle.calls.specs.Card.{readCall}
-use Rattle.store.specs.declared.Changed.{Changed}
 use Rattle.store.specs.Store.{returned}
-use Rattle.printing.specs.Lines.{listing, refusedLine}
+use Rattle.store.specs.declared.Changed.{Changed}
 use Rattle.printing.specs.Puts.{Puts}
+use Rattle.printing.specs.Lines.{listing, refusedLine}
 use Rattle.listing.specs.Listing.{blank, text, printed}
 use Rattle.listing.proofs.Standing.{standing-front}
 

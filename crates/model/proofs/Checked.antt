@@ -11,7 +11,8 @@ use native.Mathlib.Omega.{arith}
 use lib.ListN.{length, getD, drop, take, drop-of-length-le}
 use lib.Seq.{drop-cons}
 use borrow.Author.Tests.{eq-eqb, ne-eqb, lt-ltb, le-ltb}
-use Rattle.model.specs.Edges.{zeros?, rising?, standing}
+use Rattle.model.specs.Edges.{standing}
+use Rattle.model.specs.Computed.Edges.{zeros?, rising?}
 use Rattle.model.proofs.Lists.{part-all}
 
 module _ {A : Type 0} (found : ℕ → A) (invalid : A) where

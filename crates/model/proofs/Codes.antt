@@ -11,10 +11,12 @@ use native.Mathlib.Decide.{ℕ-discrete}
 use native.Mathlib.Omega.{arith}
 use lib.Dec.{T}
 use lib.ListN.{length, length-append}
-use Rattle.model.specs.Lists.{_∈_}
 use Rattle.model.specs.Limits.{mostLongest, digitUnit, codeDigits, hubUnit}
-use Rattle.model.specs.Patterns.{times, Pattern, keyed?, own?, codeFrom, code}
-use Rattle.model.specs.Query.{digits, code?, Coded}
+use Rattle.model.specs.Lists.{_∈_}
+use Rattle.model.specs.Patterns.{times, Pattern, codeFrom, code}
+use Rattle.model.specs.Query.{Coded}
+use Rattle.model.specs.Computed.Patterns.{keyed?, own?}
+use Rattle.model.specs.Computed.Query.{digits, code?}
 use Rattle.model.proofs.Tests.{Tests, test-and, test-T}
 use Rattle.model.proofs.Patterns.{Digits, code-lt, test-keyed, test-own}
 use Rattle.model.proofs.Zeros.{not-zero}

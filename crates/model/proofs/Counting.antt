@@ -7,8 +7,10 @@ use native.Mathlib.Omega.{arith}
 use native.Mathlib.Nat.{eq-or-lt-of-le}
 use lib.ListN.{length}
 use Rattle.model.specs.Lists.{_∈_, Sorted, none, next, Rising}
-use Rattle.model.specs.Edges.{Graph, Small}
-use Rattle.model.specs.Entries.{IsEntry, entries}
+use Rattle.model.specs.Edges.{Graph}
+use Rattle.model.specs.Entries.{IsEntry}
+use Rattle.model.specs.Computed.Edges.{Small}
+use Rattle.model.specs.Computed.Entries.{entries}
 use Rattle.model.proofs.Entries.{entries-in, entries-out, entries-rise}
 
 -- a list without one of its elements

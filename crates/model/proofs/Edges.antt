@@ -5,7 +5,8 @@ use Prim.Native.Nat.{ℕ, _≤_, _<_}
 use native.Mathlib.Omega.{arith}
 use lib.Dec.{T}
 use Rattle.model.specs.Limits.{mostLabel}
-use Rattle.model.specs.Edges.{edgeNumber, fromOf, labelOf, toOf, edge?}
+use Rattle.model.specs.Edges.{edgeNumber, fromOf, labelOf, toOf}
+use Rattle.model.specs.Computed.Edges.{edge?}
 use Rattle.model.proofs.Tests.{Tests, test-map, test-and, test-le, test-lt}
 
 -- the fields of an edge number

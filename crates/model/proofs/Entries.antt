@@ -7,17 +7,20 @@ use Prim.Native.Nat.{ℕ, _≤_, _<_}
 use native.Mathlib.Omega.{arith}
 use lib.Dec.{T}
 use lib.ListN.{length}
-use Rattle.model.specs.Lists.{_∈_, keep, upTo, Rising}
 use Rattle.model.specs.Limits.{mostVertices}
-use Rattle.model.specs.Edges.{Graph, Small}
-use Rattle.model.specs.Patterns.{Pattern, code, patterns}
+use Rattle.model.specs.Lists.{_∈_, keep, upTo, Rising}
+use Rattle.model.specs.Edges.{Graph}
+use Rattle.model.specs.Patterns.{Pattern, code}
 use Rattle.model.specs.Walks.{Stop}
 use Rattle.model.specs.Order.{rank}
-use Rattle.model.specs.Entries.{Earliest, entryOf, Asked, IsEntry, out, into, stop?, allStops, earliest?, out?, in?, ofHub, ofOwner, ofSide, entries}
+use Rattle.model.specs.Entries.{Earliest, entryOf, Asked, IsEntry, out, into}
+use Rattle.model.specs.Computed.Edges.{Small}
+use Rattle.model.specs.Computed.Patterns.{patterns}
+use Rattle.model.specs.Computed.Entries.{stop?, allStops, earliest?, out?, in?, ofHub, ofOwner, ofSide, entries}
 use Rattle.model.proofs.Tests.{Tests, test-map, test-and, test-or, test-not, test-eq, test-le, test-mem, test-all}
 use Rattle.model.proofs.Lists.{keep-in, keep-out, up-to, below, spread-in, spread-out, rising-from, sorted-keep, sorted-append, sorted-map, sorted-spread}
-use Rattle.model.proofs.Walks.{stop-iff, stop-to}
 use Rattle.model.proofs.Patterns.{patterns-in, patterns-out, patterns-rise, code-below}
+use Rattle.model.proofs.Walks.{stop-iff, stop-to}
 use Rattle.model.proofs.Search.{test-runs}
 
 -- ---- what the tests say

@@ -10,7 +10,8 @@ use native.Mathlib.Omega.{arith}
 use lib.Dec.{eqb}
 use lib.ListN.{length, getD}
 use borrow.Author.Tests.{eq-eqb, ne-eqb}
-use Rattle.model.specs.Lists.{_∈_, mem?, Rising, Bracket}
+use Rattle.model.specs.Lists.{_∈_, mem?, Rising}
+use Rattle.model.specs.Computed.Lists.{Bracket}
 use Rattle.model.proofs.Tests.{test-true, test-false, test-mem}
 use Rattle.model.proofs.Lists.{getD-in, in-getD, rising-lt, rising-le}
 

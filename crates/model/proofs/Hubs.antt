@@ -10,10 +10,10 @@ use lib.ListN.{length}
 use Rattle.model.specs.Lists.{upTo, from}
 use Rattle.model.specs.Edges.{Graph}
 use Rattle.model.specs.Patterns.{Pattern, code}
-use Rattle.model.specs.Walks.{Spells, here, edge, Runs, once, more, Stop, Between}
+use Rattle.model.specs.Walks.{Spells, here, edge, Runs, once, more, Stop}
 use Rattle.model.specs.Order.{rank}
 use Rattle.model.specs.Entries.{Earliest, outEntry, inEntry, IsEntry}
-use Rattle.model.specs.Hubs.{Picked, EntryBy}
+use Rattle.model.specs.Build.Hubs.{Between, Picked, EntryBy}
 use Rattle.model.proofs.Walks.{stop-iff, stop-start, stop-end, runs-to}
 use Rattle.model.proofs.Order.{rank-here, rank-there}
 

@@ -7,16 +7,18 @@ use native.Mathlib.Omega.{arith}
 use native.Mathlib.Nat.{le-refl, le-of-suc-le-suc, not-suc-le-zero, eq-or-lt-of-le}
 use native.Mathlib.Decide.{ℕ-discrete, decLe, map-dec}
 use Rattle.model.specs.Lists.{_∈_}
-use Rattle.model.specs.Edges.{Graph, Small}
+use Rattle.model.specs.Edges.{Graph}
 use Rattle.model.specs.Patterns.{code}
-use Rattle.model.specs.Walks.{Runs, Stop, Between}
+use Rattle.model.specs.Walks.{Runs, Stop}
 use Rattle.model.specs.Order.{rank, Names}
 use Rattle.model.specs.Entries.{Earliest, entryOf, outEntry, inEntry, Asked, IsEntry, out, into}
 use Rattle.model.specs.Query.{Answers, target, source, shared}
-use Rattle.model.proofs.Walks.{stop-iff, stop-start, stop-end, stop-left, stop-right, runs-trans, runs-to, stop-to}
+use Rattle.model.specs.Computed.Edges.{Small}
+use Rattle.model.specs.Build.Hubs.{Between}
 use Rattle.model.proofs.Patterns.{code-below}
-use Rattle.model.proofs.Codes.{code-inj}
+use Rattle.model.proofs.Walks.{stop-iff, stop-start, stop-end, stop-left, stop-right, runs-trans, runs-to, stop-to}
 use Rattle.model.proofs.Order.{rank-same}
+use Rattle.model.proofs.Codes.{code-inj}
 
 pub number-same : {g : Graph} {l m : List ℕ} {a b c d : ℕ} (i j : ℕ) → Small g → Asked g l a b → Asked g m c d
     → entryOf i a b (code l) ≡ entryOf j c d (code m) → (i ≡ j) × (a ≡ c) × (b ≡ d) × (l ≡ m)

@@ -10,7 +10,8 @@ use lib.ListN.{length}
 use Rattle.model.specs.Lists.{_∈_}
 use Rattle.model.specs.Edges.{standing}
 use Rattle.model.specs.Patterns.{Keyed, codeFrom, code}
-use Rattle.model.specs.Query.{sideOf, ownerOf, hubOf, codeOf, code?, entry?, risingEntries?, indexMemory?, target, source, shared, answers?}
+use Rattle.model.specs.Query.{target, source, shared}
+use Rattle.model.specs.Computed.Query.{sideOf, ownerOf, hubOf, codeOf, code?, entry?, risingEntries?, indexMemory?, answers?}
 use Rattle.model.proofs.Tests.{Tests, test-map, test-agree, test-and, test-lt, test-T}
 use Rattle.model.proofs.Patterns.{code-ge}
 use Rattle.model.proofs.Query.{test-answers}

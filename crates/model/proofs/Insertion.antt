@@ -7,8 +7,9 @@ use native.Mathlib.Decide.{decLt, ℕ-discrete}
 use native.Mathlib.Omega.{arith}
 use lib.ListN.{length, getD}
 use borrow.Author.Tests.{eq-eqb, ne-eqb, lt-ltb, le-ltb}
-use Rattle.model.specs.Lists.{_∈_, none, next, Rising, lowerBound}
-use Rattle.model.specs.Edges.{insertEdge, removeEdge}
+use Rattle.model.specs.Lists.{_∈_, none, next, Rising}
+use Rattle.model.specs.Computed.Lists.{lowerBound}
+use Rattle.model.specs.Computed.Edges.{insertEdge, removeEdge}
 
 -- ---- where an edge belongs: x goes before slot k of ys, and zs is ys with x put in
 

@@ -9,11 +9,13 @@ use native.Mathlib.Omega.{arith}
 use lib.Dec.{ltb}
 use lib.ListN.{length, getD, take, drop}
 use lib.Seq.{take-suc, drop-cons, take-length, drop-length}
-use Rattle.model.specs.Lists.{_∈_, upTo}
 use Rattle.model.specs.Limits.{mostVertices}
+use Rattle.model.specs.Lists.{_∈_, upTo}
 use Rattle.model.specs.Edges.{Graph, edgeNumber}
 use Rattle.model.specs.Walks.{Spells, here, edge, Runs, once, more}
-use Rattle.model.specs.Levels.{state, vertexOf, usedOf, states, leads?, led?, Leads, grow, stage, level, IsState, Fresh, Reached}
+use Rattle.model.specs.States.{state, vertexOf, usedOf, Leads, IsState}
+use Rattle.model.specs.Computed.Levels.{states, leads?, led?, grow, stage, level}
+use Rattle.model.specs.Levels.{Fresh, Reached}
 use Rattle.model.proofs.Tests.{Tests, test-and, test-not, test-eq, test-lt, test-mem, test-any, test-T, test-dec}
 use Rattle.model.proofs.Lists.{keep-in, keep-out, up-to, below, length-keep, length-from}
 use Rattle.model.proofs.Walks.{join, still, runs-trans}

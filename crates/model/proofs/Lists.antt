@@ -10,7 +10,8 @@ use native.Mathlib.Omega.{arith}
 use lib.Dec.{T}
 use lib.ListN.{length, getD, set, take, drop, length-drop}
 use lib.Seq.{getD-set-same, getD-set-other, take-all}
-use Rattle.model.specs.Lists.{put, keep, from, upTo, spread, Sorted, none, next, Rising}
+use Rattle.model.specs.Lists.{put, keep, from, upTo, Sorted, none, next, Rising}
+use Rattle.model.specs.Computed.Lists.{spread}
 
 module _ {A : Type 0} where
   put-in : (b : Bool) {x z : A} {l : List A} → (T b × (x ≡ z)) ⊎ List·Memᴰ x l → List·Memᴰ x (put b z l)

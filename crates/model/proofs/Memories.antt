@@ -6,15 +6,17 @@ use Prim.Native.Nat.{ℕ, _-_, _≤_, _<_}
 use native.Mathlib.Omega.{arith}
 use lib.Dec.{T}
 use lib.ListN.{length}
-use Rattle.model.specs.Lists.{Padded}
 use Rattle.model.specs.Limits.{mostVertices, mostEdges, mostLongest, hubUnit}
-use Rattle.model.specs.Edges.{fromOf, labelOf, toOf, edge?, OfEdge, rising?, risingEdges?, edgeMemory?, standing}
-use Rattle.model.specs.Query.{sideOf, ownerOf, hubOf, codeOf, OfEntry, entry?, risingEntries?, indexMemory?}
+use Rattle.model.specs.Lists.{Padded}
+use Rattle.model.specs.Edges.{fromOf, labelOf, toOf, OfEdge, standing}
+use Rattle.model.specs.Query.{OfEntry}
+use Rattle.model.specs.Computed.Edges.{edge?, rising?, risingEdges?, edgeMemory?}
+use Rattle.model.specs.Computed.Query.{sideOf, ownerOf, hubOf, codeOf, entry?, risingEntries?, indexMemory?}
 use Rattle.model.proofs.Tests.{Tests, test-map, test-true, test-and, test-le}
-use Rattle.model.proofs.Edges.{edge-fields, test-edge}
 use Rattle.model.proofs.Patterns.{code-below}
-use Rattle.model.proofs.Zeros.{rising-zeros, ordered}
+use Rattle.model.proofs.Edges.{edge-fields, test-edge}
 use Rattle.model.proofs.Renumber.{entry-fields}
+use Rattle.model.proofs.Zeros.{rising-zeros, ordered}
 use Rattle.model.proofs.IndexMemory.{test-entry, code-some}
 use Rattle.model.proofs.Codes.{test-code}
 

@@ -6,9 +6,10 @@ use mathlib.Core.List.{List, [], _∷_, _++_, List·Memᴰ·head, List·Memᴰ·
 use Prim.Native.Nat.{ℕ, zero, suc, _-_, _≤_}
 use native.Mathlib.Omega.{arith}
 use lib.ListN.{length, replicate, length-append, length-replicate}
-use Rattle.model.specs.Lists.{_∈_, Rising, filled}
 use Rattle.model.specs.Limits.{mostEdges}
-use Rattle.model.specs.Edges.{edge?, rising?, risingEdges?, edgeMemory?, standing}
+use Rattle.model.specs.Lists.{_∈_, Rising, filled}
+use Rattle.model.specs.Edges.{standing}
+use Rattle.model.specs.Computed.Edges.{edge?, rising?, risingEdges?, edgeMemory?}
 use Rattle.model.proofs.Tests.{test-true, test-yields, test-and, test-eq, test-le, by-test, test-T}
 use Rattle.model.proofs.Edges.{test-edge}
 use Rattle.model.proofs.Zeros.{not-zero, rising-zeros, Ordered, ordered}

@@ -7,9 +7,10 @@ use native.Mathlib.Nat.{mul-div-cancel, eq-or-lt-of-le, le-trans, mul-le-mul-rig
 use native.Mathlib.Omega.{arith}
 use lib.ListN.{length, take, drop, length-take, length-append, take-append-drop}
 use lib.Seq.{take-append-seam}
-use Rattle.model.specs.Lists.{_∈_, from, Sorted, none, next}
 use Rattle.model.specs.Limits.{hubUnit, mostLongest, mostLabel}
-use Rattle.model.specs.Patterns.{times, Keyed, keyed?, MinRepeat, repeatFrom, minRepeat, foldedLength, Pattern, own?, codeFrom, code, words, patterns}
+use Rattle.model.specs.Lists.{_∈_, from, Sorted, none, next}
+use Rattle.model.specs.Patterns.{times, Keyed, MinRepeat, Pattern, codeFrom, code}
+use Rattle.model.specs.Computed.Patterns.{keyed?, repeatFrom, minRepeat, foldedLength, own?, words, patterns}
 use Rattle.model.proofs.Tests.{Tests, test-map, test-and, test-le, test-all, test-same, test-true, by-test}
 use Rattle.model.proofs.Lists.{keep-in, keep-out, from-in, from-out, rising-from, spread-in, spread-out, sorted-keep, sorted-imp, sorted-append, sorted-map, sorted-spread}
 

@@ -5,16 +5,19 @@ use mathlib.Core.List.{List}
 use Prim.Native.Nat.{ℕ}
 use lib.Dec.{T}
 use Rattle.model.specs.Lists.{_∈_, keep}
-use Rattle.model.specs.Edges.{Graph, Small}
+use Rattle.model.specs.Edges.{Graph}
 use Rattle.model.specs.Walks.{Runs}
 use Rattle.model.specs.Order.{Names}
-use Rattle.model.specs.Entries.{Asked, outEntry, inEntry, entries}
-use Rattle.model.specs.Query.{Answers, target, source, shared, answers?}
+use Rattle.model.specs.Entries.{Asked, outEntry, inEntry}
+use Rattle.model.specs.Query.{Answers, target, source, shared}
+use Rattle.model.specs.Computed.Edges.{Small}
+use Rattle.model.specs.Computed.Entries.{entries}
+use Rattle.model.specs.Computed.Query.{answers?}
 use Rattle.model.proofs.Tests.{Tests, test-map, test-and, test-or, test-mem, test-any}
 use Rattle.model.proofs.Lists.{keep-out, up-to, below}
 use Rattle.model.proofs.Search.{runs-dec}
-use Rattle.model.proofs.Entries.{entries-in, entries-out}
 use Rattle.model.proofs.Index.{earliest, sound, complete, necessary}
+use Rattle.model.proofs.Entries.{entries-in, entries-out}
 
 pub test-answers : (vertices : ℕ) (index l : List ℕ) (s t : ℕ) → Tests (answers? vertices index l s t) (Answers vertices index l s t)
 unfolding answers?

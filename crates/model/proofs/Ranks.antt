@@ -12,8 +12,9 @@ use lib.Dec.{T, eqb}
 use lib.ListN.{length, getD, take}
 use lib.Seq.{getD-take, length-take-le, ext-getD}
 use Rattle.model.specs.Lists.{_∈_, put, keep, upTo, Sorted, none, next}
-use Rattle.model.specs.Edges.{bare, edgeNumber, fromOf, toOf}
+use Rattle.model.specs.Edges.{edgeNumber, fromOf, toOf}
 use Rattle.model.specs.Order.{outDegree, inDegree, rank, Names}
+use Rattle.model.specs.Computed.Edges.{bare}
 use Rattle.model.proofs.Tests.{Tests, test-true, test-false, test-not, test-eq}
 use Rattle.model.proofs.Lists.{keep-in, keep-out, up-to, below, length-from, rising-from, sorted-keep, sorted-imp, getD-in}
 use Rattle.model.proofs.Order.{rank-here, rank-there, rank-same}

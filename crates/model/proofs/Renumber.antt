@@ -6,17 +6,19 @@ use mathlib.Core.List.{List, List·Memᴰ·head, List·Memᴰ·tail}
 use Prim.Native.Nat.{ℕ, _≤_, _<_}
 use native.Mathlib.Omega.{arith}
 use lib.ListN.{getD}
-use Rattle.model.specs.Lists.{_∈_, upTo}
 use Rattle.model.specs.Limits.{mostVertices, mostLabel, hubUnit}
-use Rattle.model.specs.Edges.{Graph, Small}
+use Rattle.model.specs.Lists.{_∈_, upTo}
+use Rattle.model.specs.Edges.{Graph}
 use Rattle.model.specs.Patterns.{Keyed, code}
-use Rattle.model.specs.Walks.{Spells, here, edge, Runs, once, more, Stop, Between}
+use Rattle.model.specs.Walks.{Spells, here, edge, Runs, once, more, Stop}
 use Rattle.model.specs.Order.{rank, Names}
 use Rattle.model.specs.Entries.{Earliest, entryOf, outEntry, inEntry, IsEntry}
-use Rattle.model.specs.Query.{sideOf, ownerOf, hubOf, codeOf}
-use Rattle.model.specs.Renumber.{Renumbers, translate}
-use Rattle.model.proofs.Walks.{stop-iff, stop-to}
+use Rattle.model.specs.Computed.Edges.{Small}
+use Rattle.model.specs.Computed.Query.{sideOf, ownerOf, hubOf, codeOf}
+use Rattle.model.specs.Build.Hubs.{Between}
+use Rattle.model.specs.Build.Renumber.{Renumbers, translate}
 use Rattle.model.proofs.Patterns.{code-below}
+use Rattle.model.proofs.Walks.{stop-iff, stop-to}
 use Rattle.model.proofs.Ranks.{rank-at, rank-small, vertex-small, at-rank}
 use Rattle.model.proofs.Hubs.{rank-own}
 

@@ -8,11 +8,13 @@ use native.Mathlib.Nat.{eq-or-lt-of-le, le-of-suc-le-suc}
 use native.Mathlib.Omega.{arith}
 use lib.Dec.{T}
 use lib.ListN.{length}
-use Rattle.model.specs.Lists.{_∈_, mem?, empty?}
 use Rattle.model.specs.Limits.{mostVertices, mostLongest, enoughLevels}
+use Rattle.model.specs.Lists.{_∈_, mem?, empty?}
 use Rattle.model.specs.Edges.{Graph}
 use Rattle.model.specs.Walks.{Runs}
-use Rattle.model.specs.Levels.{state, states, leads?, led?, Stage, grow, stage, level, Reply, Yes, No, Spent, replyAt, replyFrom, levelReply, Quiet, Told, found, ended, stopped, Decides, isYes?, runs?}
+use Rattle.model.specs.States.{state, Reply, Yes, No, Spent}
+use Rattle.model.specs.Computed.Levels.{states, leads?, led?, Stage, grow, stage, level, replyAt, replyFrom, levelReply, isYes?, runs?}
+use Rattle.model.specs.Levels.{Quiet, Told, found, ended, stopped, Decides}
 use Rattle.model.proofs.Tests.{Tests, test-true, test-false, test-dec, test-T, test-mem}
 use Rattle.model.proofs.Levels.{state-zero, level-runs, level-all, level-size, fresh-size}
 

@@ -10,7 +10,7 @@ use lib.ListN.{length, getD, length-append}
 use lib.Seq.{getD-append-seam}
 use Rattle.model.specs.Limits.{mostLabel}
 use Rattle.model.specs.Patterns.{Pattern}
-use Rattle.model.specs.Suffixes.{With, Beyond, Leaf, Branch, Some}
+use Rattle.model.specs.Build.Suffixes.{With, Beyond, Leaf, Branch, Some}
 
 pub some-none : {G : ℕ → ℕ → Type 0} (e : ℕ) → Some 0 G e → ⊥
 some-none e s = omega (arith, s .small)

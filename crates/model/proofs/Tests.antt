@@ -5,7 +5,8 @@ use mathlib.Core.Bool.{Bool, true, false, not, _&&_, _||_, cond}
 use mathlib.Core.List.{List, [], _∷_, List·Memᴰ, List·Memᴰ·head, List·Memᴰ·tail, List·Memᴰ·cases-cons, List·Memᴰ·not-nil}
 use Prim.Native.Nat.{ℕ, suc, _≤_, _<_}
 use lib.Dec.{T, eqb, leb, ltb, eqb→eq, eqb-refl, leb→le, le→leb}
-use Rattle.model.specs.Lists.{any?, all?, mem?, same?}
+use Rattle.model.specs.Lists.{any?, mem?}
+use Rattle.model.specs.Computed.Lists.{all?, same?}
 
 -- b is true where P holds, and there alone
 pub record Tests (b : Bool) (P : Type 0) : Type 0 where

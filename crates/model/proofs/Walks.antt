@@ -6,7 +6,8 @@ use Prim.Native.Nat.{ℕ, zero, suc, _<_}
 use Rattle.model.specs.Lists.{_∈_}
 use Rattle.model.specs.Edges.{Graph}
 use Rattle.model.specs.Patterns.{times}
-use Rattle.model.specs.Walks.{Spells, here, edge, Runs, once, more, stops, Stop, Between}
+use Rattle.model.specs.Walks.{Spells, here, edge, Runs, once, more, stops, Stop}
+use Rattle.model.specs.Build.Hubs.{Between}
 
 module _ {g : Graph} where
   pub join : {s m t : ℕ} {v w : List ℕ} → Spells g s v m → Spells g m w t → Spells g s (v ++ w) t

@@ -12,7 +12,8 @@ use lib.ListN.{length, getD, take, drop, replicate, drop-of-length-le, length-ap
 use lib.Seq.{drop-cons, take-append-seam}
 use borrow.Author.Tests.{eq-eqb, ne-eqb}
 use Rattle.model.specs.Lists.{_∈_, none, next, Rising, filled, zeroed}
-use Rattle.model.specs.Edges.{zeros?, rising?, standing}
+use Rattle.model.specs.Edges.{standing}
+use Rattle.model.specs.Computed.Edges.{zeros?, rising?}
 use Rattle.model.proofs.Tests.{test-true, test-false, test-and, test-eq, test-lt, test-T}
 
 pub not-zero : (x : ℕ) → 1 ≤ x → eqb x 0 ≡ false

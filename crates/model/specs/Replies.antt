@@ -1,7 +1,7 @@
 -- Document 01's numbers and replies for each case of the enums.
 use Prim.Native.Nat.{ℕ}
-use Rattle.model.specs.Levels.{Reply, Yes, No, Spent, Refused}
 use Rattle.model.specs.Query.{Answered, Yes as AnsweredYes, No as AnsweredNo, Refused as AnsweredRefused}
+use Rattle.model.specs.States.{Reply, Yes, No, Spent, Refused}
 use Rattle.model.specs.declared.Refusal.{Refusal}
 use Rattle.model.specs.declared.Refusal.the-variants.{Vertices, Longest, EdgeMemory, WorkMemory, EdgeEnd, EdgeLabel, EdgePresent, EdgeAbsent, EdgeSlots, QueryEnd, QueryPattern, IndexMemory, IndexSlots, CardMark, CardVersion, CardEdges, CardOutput}
 use Rattle.model.specs.declared.Answer.{Answer}

@@ -1,6 +1,4 @@
 -- Walks, the patterns that they run, and their stops (document 01, "Patterns and walks").
-use mathlib.Core.Path.{_≡_}
-use mathlib.Core.Logic.{_⊎_}
 use mathlib.Core.List.{List, [], _∷_}
 use Prim.Native.Nat.{ℕ, _<_}
 use Rattle.model.specs.Lists.{_∈_}
@@ -31,7 +29,3 @@ stops (more {s = s} p r) = s ∷ stops r
 pub record Stop (g : Graph) (l : List ℕ) (s t u : ℕ) : Type 0 where
   pub walk : Runs g l s t
   pub among : u ∈ stops walk
-
--- what stops come to: the start, the end, or a vertex where one walk that runs l ends and another starts
-abbrev pub Between : Graph → List ℕ → ℕ → ℕ → ℕ → Type 0
-Between g l s t u = (u ≡ s) ⊎ ((u ≡ t) ⊎ (Runs g l s u × Runs g l u t))

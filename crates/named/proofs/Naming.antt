@@ -7,11 +7,12 @@ use native.Mathlib.Omega.{arith}
 use lib.ListN.{length, getD, take}
 use lib.Seq.{getD-take}
 use Rattle.model.specs.Lists.{_∈_, mem?, Rising}
-use Rattle.model.specs.Edges.{edgeNumber, edgeMemory?, standing}
+use Rattle.model.specs.Edges.{edgeNumber, standing}
 use Rattle.model.specs.Replies.{numberOf}
+use Rattle.model.specs.Computed.Edges.{edgeMemory?}
 use Rattle.model.specs.declared.Refusal.{Refusal}
-use Rattle.model.proofs.Replies.{number-some}
 use Rattle.model.proofs.Tests.{test-true, test-false, test-yields, test-mem, test-not, test-lt}
+use Rattle.model.proofs.Replies.{number-some}
 use Rattle.edges.specs.Memory.{scanOf}
 use Rattle.edges.specs.declared.Scanned.the-variants.{Edges}
 use Rattle.edges.specs.declared.Found.the-variants.{At, Before}

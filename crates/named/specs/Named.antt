@@ -4,11 +4,11 @@ use Prim.Native.Nat.{ℕ}
 use lib.ListN.{length, take}
 use Rattle.model.specs.Edges.{edgeNumber, standing}
 use Rattle.model.specs.Replies.{numberOf}
-use Rattle.calls.specs.Call.{Header, Memory}
-use Rattle.calls.specs.Change.{changeRefusal, insertRefusal, removeRefusal}
 use Rattle.edges.specs.Memory.{findOf, Insertable, Removable}
 use Rattle.edges.specs.declared.Found.{Found}
 use Rattle.edges.specs.declared.Found.the-variants.{At as FoundAt, Before}
+use Rattle.calls.specs.Call.{Header, Memory}
+use Rattle.calls.specs.Change.{changeRefusal, insertRefusal, removeRefusal}
 use Rattle.checks.specs.declared.Standing.{Standing}
 use Rattle.checks.specs.declared.Standing.the-variants.{Edges, Refused}
 use Rattle.named.specs.declared.Lookup.{Lookup}

@@ -4,17 +4,17 @@ use mathlib.Core.List.{List, map, Memᴰ·of-map}
 use Prim.Native.Nat.{ℕ, _+_, _<_, _^_}
 use native.Mathlib.Omega.{arith}
 use lib.ListN.{length, getD, set, length-map}
-use Rattle.model.specs.Lists.{_∈_}
 use Rattle.model.specs.Limits.{mostVertices}
+use Rattle.model.specs.Lists.{_∈_}
 use Rattle.model.specs.Order.{rank, Names}
 use Rattle.model.specs.Entries.{entryOf}
-use Rattle.model.specs.Query.{sideOf, ownerOf, hubOf, codeOf}
-use Rattle.model.specs.Renumber.{translate}
+use Rattle.model.specs.Computed.Query.{sideOf, ownerOf, hubOf, codeOf}
+use Rattle.model.specs.Build.Renumber.{translate}
 use Rattle.model.proofs.Lists.{getD-in, getD-map}
 use Rattle.model.proofs.Ranks.{rank-at, names-length}
 use Rattle.model.proofs.Renumber.{entry-fields}
-use Rattle.sort.specs.Order.{narrowBits, Distinct, FiveBytes}
 use Rattle.edges.proofs.Mix.{Mixed, front-none, front-turn}
+use Rattle.sort.specs.Order.{narrowBits, Distinct, FiveBytes}
 use Rattle.output.specs.Output.{Translatable}
 
 -- ---- a loop that puts f x for each x

@@ -3,10 +3,10 @@ use mathlib.Core.Path.{_≡_}
 use mathlib.Core.List.{List, map}
 use Prim.Native.Nat.{ℕ, _≤_, _<_}
 use lib.ListN.{length}
-use Rattle.model.specs.Lists.{_∈_, filled}
 use Rattle.model.specs.Limits.{mostVertices}
-use Rattle.model.specs.Query.{sideOf, ownerOf, hubOf}
-use Rattle.model.specs.Renumber.{translate}
+use Rattle.model.specs.Lists.{_∈_, filled}
+use Rattle.model.specs.Computed.Query.{sideOf, ownerOf, hubOf}
+use Rattle.model.specs.Build.Renumber.{translate}
 use Rattle.sort.specs.Order.{Distinct, FiveBytes, Sorts}
 
 -- entries whose owners and hubs are ranks of an order in memory

@@ -7,8 +7,8 @@ ghost use mathlib.Core.Path.{_≡_};
 ghost use mathlib.Core.List.{map};
 ghost use Prim.Native.Nat.{_<_};
 ghost use lib.ListN.{length};
-ghost use Rattle.model.specs.Query.{sideOf, ownerOf, hubOf};
-ghost use Rattle.model.specs.Renumber.{translate};
+ghost use Rattle.model.specs.Computed.Query.{sideOf, ownerOf, hubOf};
+ghost use Rattle.model.specs.Build.Renumber.{translate};
 ghost use Rattle.output.specs.Output.{Translatable, IndexWritable, WritesIndex};
 
 // What the remainder of an owner or a hub is taken by.

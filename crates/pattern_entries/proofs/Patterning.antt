@@ -6,17 +6,17 @@ use Prim.Native.Nat.{ℕ, _<_}
 use native.Mathlib.Nat.{zero-add}
 use native.Mathlib.Omega.{arith}
 use Rattle.model.specs.Limits.{mostVertices}
-use Rattle.model.specs.Hubs.{EntryBy}
+use Rattle.model.specs.Build.Hubs.{EntryBy}
 use Rattle.model.proofs.Hubs.{entry-by-as}
 use Rattle.rows.specs.Region.{stepRows, parentRows, openRow}
 use Rattle.rows.specs.Rows.{On, Row, InRows, StepsTo, Domain}
 use Rattle.rows.proofs.Rows.{keeps-cell, keeps-domain, keeps-long}
-use Rattle.steps.specs.Filling.{Via, RowsFillable, FillsRows, Clears}
 use Rattle.closure.specs.Closing.{Plus, Closes}
 use Rattle.closure.proofs.Plus.{plus-then, plus-from, plus-as}
 use Rattle.staging.specs.Stage.{Stages, Unpicked, Stageable}
 use Rattle.staging.proofs.Adding.{stages-as, stages-kept, stages-since, stages-within}
 use Rattle.staging.proofs.Picking.{unpicked-steps}
+use Rattle.steps.specs.Filling.{Via, RowsFillable, FillsRows, Clears}
 use Rattle.pattern_entries.specs.Pattern.{Led, PatternStageable, PatternStages, LedEntry}
 
 module _ {edges slots w : List ℕ} {label starts code room cnt : ℕ} (p : PatternStageable edges slots w label starts code room cnt) where

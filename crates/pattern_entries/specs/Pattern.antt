@@ -3,13 +3,13 @@ use mathlib.Core.List.{List}
 use Prim.Native.Nat.{ℕ, _+_, _≤_, _<_}
 use lib.ListN.{length}
 use Rattle.model.specs.Limits.{mostVertices, mostLabel, leastWork, hubUnit}
-use Rattle.model.specs.Hubs.{EntryBy}
+use Rattle.model.specs.Build.Hubs.{EntryBy}
 use Rattle.rows.specs.Region.{stepRows, parentRows, childRows, openRow}
 use Rattle.rows.specs.Rows.{On, InRows, Empty}
-use Rattle.steps.specs.Steps.{Slotted}
-use Rattle.steps.specs.Filling.{Via}
 use Rattle.closure.specs.Closing.{Plus}
 use Rattle.staging.specs.Stage.{Stages}
+use Rattle.steps.specs.Steps.{Slotted}
+use Rattle.steps.specs.Filling.{Via}
 
 -- the label and the parent's word lead from a to b
 pub record Led (edges w : List ℕ) (label a b : ℕ) : Type 0 where

@@ -6,10 +6,11 @@ use Prim.Native.Nat.{ℕ, _≤_, _<_}
 use native.Mathlib.Omega.{arith}
 use lib.ListN.{length, getD}
 use Rattle.model.specs.Limits.{mostLabel}
-use Rattle.model.specs.Patterns.{keyed?, Keyed}
+use Rattle.model.specs.Patterns.{Keyed}
+use Rattle.model.specs.Computed.Patterns.{keyed?}
 use Rattle.model.proofs.Tests.{test-true, test-false}
-use Rattle.model.proofs.Patterns.{test-keyed}
 use Rattle.model.proofs.Lists.{Below, getD-in, in-getD}
+use Rattle.model.proofs.Patterns.{test-keyed}
 
 -- position j has a label
 abbrev pub Labelled : List ℕ → ℕ → Type 0

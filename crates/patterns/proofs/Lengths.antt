@@ -9,11 +9,12 @@ use native.Mathlib.Omega.{arith}
 use lib.ListN.{length, take, getD}
 use lib.Seq.{length-take-le}
 use Rattle.model.specs.Limits.{mostLongest}
-use Rattle.model.specs.Patterns.{times, keyed?, repeatFrom, minRepeat, foldedLength}
+use Rattle.model.specs.Patterns.{times}
+use Rattle.model.specs.Computed.Patterns.{keyed?, repeatFrom, minRepeat, foldedLength}
 use Rattle.model.proofs.Tests.{Tests, test-same, test-true, test-false}
+use Rattle.model.proofs.Lists.{Below}
 use Rattle.model.proofs.Patterns.{length-times}
 use Rattle.patterns.specs.Repeats.{repeats?, lengthFrom}
-use Rattle.model.proofs.Lists.{Below}
 use Rattle.patterns.proofs.Repeating.{Back, times-back, back-times}
 
 test-repeats : (l : List ℕ) (d : ℕ) → Tests (repeats? l d) (times (length l / d) (take d l) ≡ l)

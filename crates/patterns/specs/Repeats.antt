@@ -3,8 +3,9 @@ use mathlib.Core.Bool.{Bool}
 use mathlib.Core.List.{List}
 use Prim.Native.Nat.{ℕ, suc, _-_, _/_}
 use lib.ListN.{length, take}
-use Rattle.model.specs.Lists.{same?}
-use Rattle.model.specs.Patterns.{times, repeatFrom}
+use Rattle.model.specs.Patterns.{times}
+use Rattle.model.specs.Computed.Lists.{same?}
+use Rattle.model.specs.Computed.Patterns.{repeatFrom}
 
 -- the first d labels, written some whole number of times, give the pattern
 unfoldable pub repeats? : List ℕ → ℕ → Bool

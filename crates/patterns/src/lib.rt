@@ -4,7 +4,8 @@ ghost use mathlib.Core.Path.{_≡_};
 ghost use Prim.Native.Nat.{_≤_};
 ghost use lib.ListN.{length};
 ghost use Rattle.model.specs.Limits.{mostLongest};
-ghost use Rattle.model.specs.Patterns.{keyed?, foldedLength, code, Keyed};
+ghost use Rattle.model.specs.Patterns.{code, Keyed};
+ghost use Rattle.model.specs.Computed.Patterns.{keyed?, foldedLength};
 ghost use Rattle.patterns.specs.Repeats.{repeats?, lengthFrom};
 
 // The model's numbers, in the width of what is checked.

@@ -2,7 +2,7 @@
 use mathlib.Core.Path.{_≡_, refl}
 use mathlib.Core.List.{List, [], _∷_, _++_}
 use Prim.Native.Nat.{ℕ}
-use Rattle.model.specs.Lists.{spread}
+use Rattle.model.specs.Computed.Lists.{spread}
 use Rattle.printing.specs.Lines.{digits, sideLine, entryLine, headerLine, refusedLine, listing}
 
 -- "Output, whole", line by line

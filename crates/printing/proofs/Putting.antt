@@ -9,9 +9,9 @@ use borrow.Author.Tests.{lt-ltb, le-ltb}
 use lib.Dec.{ltb}
 use lib.ListN.{length, take, drop, getD, set, length-append, length-drop, take-append-drop, drop-of-length-le}
 use lib.Seq.{length-take-le, take-length, take-all, take-at, drop-at, drop-drop, set-split, take-suc}
-use Rattle.model.specs.Lists.{spread}
 use Rattle.model.specs.Limits.{sideUnit}
-use Rattle.model.specs.Query.{ownerOf, hubOf, codeOf}
+use Rattle.model.specs.Computed.Lists.{spread}
+use Rattle.model.specs.Computed.Query.{ownerOf, hubOf, codeOf}
 use Rattle.printing.specs.Puts.{Puts}
 use Rattle.printing.specs.Lines.{digits, number, labels, space, newline, outWord, inWord, sideLine, entryLine, placesWord, longestWord, legsWord, entriesWord, headerLine, refusedWord, refusedLine, listing}
 

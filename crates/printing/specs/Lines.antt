@@ -4,9 +4,9 @@ use mathlib.Core.List.{List, [], _∷_, _++_}
 use Prim.Native.Nat.{ℕ, zero, suc, _+_, _/_, _%_}
 use lib.Dec.{ltb}
 use lib.ListN.{length}
-use Rattle.model.specs.Lists.{spread}
 use Rattle.model.specs.Limits.{mostLongest, digitUnit, sideUnit}
-use Rattle.model.specs.Query.{ownerOf, hubOf, codeOf}
+use Rattle.model.specs.Computed.Lists.{spread}
+use Rattle.model.specs.Computed.Query.{ownerOf, hubOf, codeOf}
 
 -- the digits of n in base b, with no zeros in front, at most `most` of them. Byte 48 is the digit 0
 unfoldable pub digits : (b most n : ℕ) → List ℕ

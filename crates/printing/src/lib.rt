@@ -8,7 +8,7 @@ ghost use Prim.Native.Nat.{_+_, _*_, _^_, _≤_, _<_};
 ghost use mathlib.Core.List.{_++_, _∷_, []};
 ghost use lib.ListN.{length};
 ghost use Rattle.model.specs.Limits.{digitUnit};
-ghost use Rattle.model.specs.Lists.{spread};
+ghost use Rattle.model.specs.Computed.Lists.{spread};
 ghost use Rattle.printing.specs.Puts.{Puts};
 ghost use Rattle.printing.specs.Lines.{
   digits,
@@ -86,7 +86,13 @@ pub fn put_entry(out: &mut [u8], at: usize, entry: u64) -> usize
     let side = put_side(out, at, entry);
     let hub = put_field(out, side, b" ", (entry / HUB_UNIT % MOST_VERTICES) as u32);
     let space = put(out, hub, b' ');
-    let labels = put_digits(out, space, (entry % HUB_UNIT) as u32, DIGIT_UNIT, MOST_LONGEST);
+    let labels = put_digits(
+        out,
+        space,
+        (entry % HUB_UNIT) as u32,
+        DIGIT_UNIT,
+        MOST_LONGEST,
+    );
     put(out, labels, b'\n')
 }
 

@@ -7,9 +7,11 @@ use native.Mathlib.Omega.{arith}
 use lib.ListN.{length, take}
 use Rattle.model.specs.Limits.{mostLongest}
 use Rattle.model.specs.Edges.{standing, Bounds}
-use Rattle.model.specs.Patterns.{Keyed, minRepeat, foldedLength}
-use Rattle.model.specs.Query.{entry?, indexMemory?, answers?, Refused}
+use Rattle.model.specs.Patterns.{Keyed}
+use Rattle.model.specs.Query.{Refused}
 use Rattle.model.specs.Replies.{numberOf}
+use Rattle.model.specs.Computed.Patterns.{minRepeat, foldedLength}
+use Rattle.model.specs.Computed.Query.{entry?, indexMemory?, answers?}
 use Rattle.model.specs.declared.Refusal.{Refusal}
 use Rattle.model.proofs.Tests.{test-yields}
 use Rattle.model.proofs.Patterns.{test-keyed, keyed-up, folded, folded-length, folded-take, repeat-short}

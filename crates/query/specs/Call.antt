@@ -1,7 +1,7 @@
 -- The query's checks that come before that of index memory.
 use mathlib.Core.List.{List, [], _∷_}
 use Prim.Native.Nat.{ℕ}
-use Rattle.model.specs.Patterns.{keyed?}
+use Rattle.model.specs.Computed.Patterns.{keyed?}
 use Rattle.calls.specs.Checks.{vertices?, longest?, ends?, Check, firstRefusal}
 use Rattle.calls.specs.Call.{Header}
 

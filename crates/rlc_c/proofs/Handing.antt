@@ -6,8 +6,8 @@ use Prim.Native.Nat.{ℕ, zero, suc, _≤_}
 use native.Mathlib.Omega.{arith}
 use lib.ListN.{length, set}
 use Rattle.model.specs.Limits.{mostLongest}
-use Rattle.model.specs.Patterns.{foldedLength}
 use Rattle.model.specs.Replies.{numberOf, answerOf}
+use Rattle.model.specs.Computed.Patterns.{foldedLength}
 use Rattle.model.specs.declared.Refusal.{Refusal}
 use Rattle.model.specs.declared.Answer.the-variants.{Accepted, Refused}
 use Rattle.model.proofs.Tests.{test-true, test-false, test-eq, by-test}

@@ -5,8 +5,8 @@ use mathlib.Core.List.{List, [], _∷_}
 use Prim.Native.Nat.{ℕ, zero, suc, _+_, _*_, _^_}
 use lib.Dec.{eqb}
 use lib.ListN.{length, getD}
-use Rattle.model.specs.Levels.{Reply, Yes, No, Spent, Refused}
 use Rattle.model.specs.Query.{Answered, Yes as AnsweredYes, No as AnsweredNo, Refused as AnsweredRefused}
+use Rattle.model.specs.States.{Reply, Yes, No, Spent, Refused}
 use Rattle.model.specs.Replies.{answerOf}
 use Rattle.calls.specs.Call.{Header, Memory, Outcome, Meets}
 use Rattle.calls.specs.Change.{Returned}

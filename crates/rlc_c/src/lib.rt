@@ -10,12 +10,12 @@ ghost use mathlib.Core.Path.{_≡_};
 ghost use Prim.Native.Nat.{_*_};
 ghost use mathlib.Core.List.{[]};
 ghost use lib.ListN.{length, getD};
-ghost use Rattle.model.specs.Patterns.{Folds};
+ghost use Rattle.model.specs.Computed.Patterns.{Folds};
 ghost use Rattle.calls.specs.Call.{lent, Meets};
+ghost use Rattle.calls.specs.Search.{searchCall};
+ghost use Rattle.calls.specs.Query.{queryCall};
 ghost use Rattle.calls.specs.Change.{openCall, insertCall, removeCall};
 ghost use Rattle.calls.specs.Card.{readCall, writeCall};
-ghost use Rattle.calls.specs.Query.{queryCall};
-ghost use Rattle.calls.specs.Search.{searchCall};
 ghost use Rattle.rlc_c.specs.Interface.{headerIn, otherRecord, replyUnit, inC, HandsBack, ChangesInC, answeredInC, repliedInC, wroteInC};
 
 const OTHER_RECORD: u32 = 255;

@@ -11,11 +11,12 @@ use lib.Dec.{ltb}
 use lib.Pow.{pow-add}
 use lib.ListN.{length, take, drop, length-append, length-drop, take-append-drop}
 use borrow.Author.Tests.{lt-ltb, le-ltb}
-use Rattle.model.specs.Lists.{all?, within?}
 use Rattle.model.specs.Limits.{mostLabel, digitUnit, codeDigits, hubUnit}
-use Rattle.model.specs.Edges.{label?}
-use Rattle.model.specs.Patterns.{times, minRepeat, keyed?, own?, code}
-use Rattle.model.specs.Query.{digits, code?}
+use Rattle.model.specs.Patterns.{times, code}
+use Rattle.model.specs.Computed.Lists.{all?, within?}
+use Rattle.model.specs.Computed.Edges.{label?}
+use Rattle.model.specs.Computed.Patterns.{minRepeat, keyed?, own?}
+use Rattle.model.specs.Computed.Query.{digits, code?}
 use Rattle.model.proofs.Tests.{test-map, test-agree, test-and, test-le, test-lt, test-same, test-false, test-yields, test-fails, both-ways}
 use Rattle.model.proofs.Lists.{Below, below-more}
 use Rattle.model.proofs.Patterns.{Digits, length-times, times-pos, times-one, min-repeat, test-own, test-keyed}

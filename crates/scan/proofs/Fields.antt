@@ -10,7 +10,7 @@ use lib.ListN.{length, getD, set, replicate, length-set, length-replicate, getD-
 use lib.Seq.{getD-set-same, getD-set-other}
 use borrow.Author.Tests.{lt-ltb}
 use Rattle.model.specs.Limits.{hubUnit, ownerUnit, sideUnit}
-use Rattle.model.specs.Query.{sideOf, ownerOf, hubOf, codeOf, code?, entry?}
+use Rattle.model.specs.Computed.Query.{sideOf, ownerOf, hubOf, codeOf, code?, entry?}
 use Rattle.model.proofs.Tests.{test-false, test-yields}
 use Rattle.model.proofs.IndexMemory.{Valid, test-entry}
 use Rattle.scan.specs.Codes.{slots, slotOf}

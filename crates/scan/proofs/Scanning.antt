@@ -6,8 +6,9 @@ use Prim.Native.Nat.{ℕ, _+_, _≤_, _<_}
 use native.Mathlib.Nat.{zero-add}
 use native.Mathlib.Omega.{arith}
 use lib.ListN.{length, getD, drop}
-use Rattle.model.specs.Edges.{zeros?, standing}
-use Rattle.model.specs.Query.{entry?, risingEntries?, indexMemory?}
+use Rattle.model.specs.Edges.{standing}
+use Rattle.model.specs.Computed.Edges.{zeros?}
+use Rattle.model.specs.Computed.Query.{entry?, risingEntries?, indexMemory?}
 use Rattle.model.proofs.Checked.{checked-rest, checked-next}
 use Rattle.scan.specs.Memory.{scanOf, scanFrom}
 use Rattle.scan.specs.declared.Extent.the-variants.{Entries, Invalid}

@@ -6,7 +6,7 @@ use Prim.Native.Nat.{ℕ, _+_, _%_, _≤_, _<_}
 use native.Mathlib.Omega.{arith}
 use lib.ListN.{length, getD, drop, List·getD-eq-default}
 use Rattle.model.specs.Limits.{ownerUnit}
-use Rattle.model.specs.Query.{codeOf, entry?}
+use Rattle.model.specs.Computed.Query.{codeOf, entry?}
 use Rattle.scan.specs.Memory.{scanFrom}
 use Rattle.scan.specs.Codes.{slotOf}
 use Rattle.scan.specs.Scan.{Seen, Within, HubsBelow, Skims}

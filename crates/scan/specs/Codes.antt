@@ -6,7 +6,7 @@ use Prim.Native.Nat.{ℕ, suc, _+_, _*_, _/_, _%_, _^_, _≤_, _<_}
 use lib.ListN.{length}
 use Rattle.model.specs.Limits.{digitUnit, codeDigits, hubUnit}
 use Rattle.model.specs.Patterns.{times, Keyed}
-use Rattle.model.specs.Query.{digits}
+use Rattle.model.specs.Computed.Query.{digits}
 
 -- how many slots there are for codes that have passed, the multiplier of their hash, and the slot of a code
 abbrev pub slots : ℕ

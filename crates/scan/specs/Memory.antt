@@ -4,7 +4,7 @@ use mathlib.Core.List.{List}
 use Prim.Native.Nat.{ℕ, _+_}
 use lib.ListN.{length}
 use Rattle.model.specs.Edges.{standing}
-use Rattle.model.specs.Query.{risingEntries?, indexMemory?}
+use Rattle.model.specs.Computed.Query.{risingEntries?, indexMemory?}
 use Rattle.scan.specs.declared.Extent.{Extent}
 use Rattle.scan.specs.declared.Extent.the-variants.{Entries, Invalid}
 

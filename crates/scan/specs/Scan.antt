@@ -5,8 +5,8 @@ use mathlib.Core.List.{List}
 use Prim.Native.Nat.{ℕ, _+_, _%_, _≤_, _<_}
 use lib.ListN.{length, getD, drop}
 use Rattle.model.specs.Limits.{mostVertices, ownerUnit}
-use Rattle.model.specs.Edges.{zeros?}
-use Rattle.model.specs.Query.{sideOf, ownerOf, hubOf, code?, entry?}
+use Rattle.model.specs.Computed.Edges.{zeros?}
+use Rattle.model.specs.Computed.Query.{sideOf, ownerOf, hubOf, code?, entry?}
 use Rattle.scan.specs.Memory.{scanFrom}
 use Rattle.scan.specs.Codes.{slots, slotOf}
 use Rattle.scan.specs.declared.Extent.{Extent}

@@ -7,21 +7,23 @@ use native.Mathlib.Omega.{arith}
 use lib.Dec.{ltb}
 use lib.ListN.{length, getD, take, drop}
 use lib.Seq.{length-take-le, length-front, getD-append-add, getD-drop}
-use Rattle.model.specs.Lists.{filled}
 use Rattle.model.specs.Limits.{mostVertices}
-use Rattle.model.specs.Edges.{Graph, bare}
-use Rattle.model.specs.Order.{weight, counted}
-use Rattle.model.specs.Entries.{determined}
+use Rattle.model.specs.Lists.{filled}
+use Rattle.model.specs.Edges.{Graph}
+use Rattle.model.specs.Order.{weight}
+use Rattle.model.specs.Computed.Edges.{bare}
+use Rattle.model.specs.Computed.Order.{counted}
+use Rattle.model.specs.Computed.Entries.{determined}
 use Rattle.model.proofs.Tests.{test-yields}
-use Rattle.model.proofs.Edges.{test-edge}
 use Rattle.model.proofs.Order.{counted-names}
+use Rattle.model.proofs.Edges.{test-edge}
 use Rattle.rows.specs.Region.{savedNumbers}
 use Rattle.rows.proofs.Rows.{keeps-then}
 use Rattle.order.specs.Work.{countNumbers}
 use Rattle.order.specs.Counting.{Countable, Counts}
+use Rattle.build.specs.Build.{Buildable, Builds, Saved, listOf}
 use Rattle.build.specs.declared.Built.{Built}
 use Rattle.build.specs.declared.Built.the-variants.{Entries, TooMany}
-use Rattle.build.specs.Build.{Buildable, Builds, Saved, listOf}
 use Rattle.build.proofs.Building.{list-determined}
 use Rattle.settle.specs.Indexing.{Indexable, Indexes}
 

@@ -9,18 +9,18 @@ use lib.ListN.{length, getD, take, drop, replicate, length-drop}
 use lib.Seq.{length-take-le, getD-take, getD-drop, ext-getD}
 use Rattle.model.specs.Lists.{filled, zeroed}
 use Rattle.model.specs.Edges.{Graph}
-use Rattle.model.specs.Entries.{determined}
+use Rattle.model.specs.Computed.Entries.{determined}
 use Rattle.model.specs.declared.Answer.the-variants.{Accepted, Refused}
 use Rattle.model.specs.declared.Refusal.the-variants.{IndexSlots}
 use Rattle.model.proofs.Tests.{test-lt, test-yields, test-fails}
 use Rattle.model.proofs.Lists.{part-all}
+use Rattle.edges.specs.Memory.{Narrow}
 use Rattle.calls.specs.Call.{Header, graphOf, Memory, lent}
 use Rattle.calls.specs.Card.{noRecord}
 use Rattle.calls.proofs.Change.{settle-fits, settle-short}
-use Rattle.edges.specs.Memory.{Narrow}
 use Rattle.rows.specs.Region.{savedNumbers}
-use Rattle.build.specs.declared.Built.the-variants.{Entries, TooMany}
 use Rattle.build.specs.Build.{Saved}
+use Rattle.build.specs.declared.Built.the-variants.{Entries, TooMany}
 use Rattle.settle.specs.Indexing.{Indexable, Indexes}
 use Rattle.settle.specs.Settle.{savedIn, Settleable, Settles}
 

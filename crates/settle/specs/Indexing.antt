@@ -5,13 +5,14 @@ use mathlib.Core.List.{List}
 use Prim.Native.Nat.{ℕ, _+_, _≤_}
 use lib.Dec.{ltb}
 use lib.ListN.{length}
-use Rattle.model.specs.Lists.{_∈_, Rising, filled}
 use Rattle.model.specs.Limits.{mostEdges, leastWork}
-use Rattle.model.specs.Edges.{Graph, Bounds, edge?}
-use Rattle.model.specs.Entries.{determined}
+use Rattle.model.specs.Lists.{_∈_, Rising, filled}
+use Rattle.model.specs.Edges.{Graph, Bounds}
+use Rattle.model.specs.Computed.Edges.{edge?}
+use Rattle.model.specs.Computed.Entries.{determined}
+use Rattle.build.specs.Build.{Saved}
 use Rattle.build.specs.declared.Built.{Built}
 use Rattle.build.specs.declared.Built.the-variants.{Entries, TooMany}
-use Rattle.build.specs.Build.{Saved}
 
 -- a header's numbers and rising edges of its graph; work memory has room for a build
 pub record Indexable (vertices longest : ℕ) (edges index work : List ℕ) : Type 0 where

@@ -4,15 +4,16 @@ use mathlib.Core.Bool.{true}
 use mathlib.Core.List.{List}
 use Prim.Native.Nat.{ℕ, _+_, _≤_}
 use lib.ListN.{length, take, drop}
-use Rattle.model.specs.Lists.{_∈_, Rising, filled}
 use Rattle.model.specs.Limits.{mostEdges, leastWork}
-use Rattle.model.specs.Edges.{Bounds, edge?}
-use Rattle.model.specs.declared.Answer.{Answer}
+use Rattle.model.specs.Lists.{_∈_, Rising, filled}
+use Rattle.model.specs.Edges.{Bounds}
 use Rattle.model.specs.Replies.{answerOf}
+use Rattle.model.specs.Computed.Edges.{edge?}
+use Rattle.model.specs.declared.Answer.{Answer}
+use Rattle.edges.specs.Memory.{Narrow}
 use Rattle.calls.specs.Call.{Header, lent, Meets}
 use Rattle.calls.specs.Change.{answers, settle}
 use Rattle.calls.specs.Card.{noRecord}
-use Rattle.edges.specs.Memory.{Narrow}
 use Rattle.rows.specs.Region.{savedNumbers}
 
 -- what edge memory held, as saved in work memory: as many numbers as it has slots

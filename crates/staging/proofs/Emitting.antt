@@ -9,11 +9,11 @@ use native.Mathlib.Decide.{ℕ-discrete, decLt}
 use lib.ListN.{length, set}
 use Rattle.model.specs.Limits.{mostVertices, leastWork, hubUnit}
 use Rattle.model.specs.Entries.{entryOf}
-use Rattle.model.specs.Query.{hubOf}
-use Rattle.model.specs.Hubs.{Picked}
+use Rattle.model.specs.Computed.Query.{hubOf}
+use Rattle.model.specs.Build.Hubs.{Picked}
 use Rattle.model.proofs.Renumber.{entry-fields}
-use Rattle.rows.specs.Rows.{On, NextVertex, StepsTo}
 use Rattle.rows.specs.Region.{workRows, pickedRow}
+use Rattle.rows.specs.Rows.{On, NextVertex, StepsTo}
 use Rattle.rows.proofs.Rows.{keeps-next}
 use Rattle.staging.specs.Stage.{Stages, Unpicked}
 use Rattle.staging.specs.Vertex.{Free, Picks, Of}

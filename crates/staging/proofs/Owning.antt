@@ -8,11 +8,11 @@ use native.Mathlib.Decide.{ℕ-discrete, decLt}
 use lib.ListN.{length, set}
 use Rattle.model.specs.Limits.{mostVertices, leastWork}
 use Rattle.model.specs.Entries.{entryOf}
-use Rattle.model.specs.Query.{ownerOf}
-use Rattle.model.specs.Hubs.{Picked}
+use Rattle.model.specs.Computed.Query.{ownerOf}
+use Rattle.model.specs.Build.Hubs.{Picked}
 use Rattle.model.proofs.Renumber.{entry-fields}
-use Rattle.rows.specs.Rows.{cell, On, Becomes, NextVertex, StepsTo}
 use Rattle.rows.specs.Region.{pickedRow}
+use Rattle.rows.specs.Rows.{cell, On, Becomes, NextVertex, StepsTo}
 use Rattle.rows.proofs.Rows.{keeps-cell}
 use Rattle.staging.specs.Stage.{Transits, Stages, Unpicked}
 use Rattle.staging.specs.Vertex.{Free, VertexStageable, Of}

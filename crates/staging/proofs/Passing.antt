@@ -6,8 +6,8 @@ use Prim.Native.Nat.{ℕ, _+_, _≤_, _<_}
 use native.Mathlib.Omega.{arith}
 use native.Mathlib.Decide.{decLt}
 use Rattle.model.specs.Limits.{mostVertices}
-use Rattle.model.specs.Query.{ownerOf, hubOf}
-use Rattle.model.specs.Hubs.{Picked, EntryBy}
+use Rattle.model.specs.Computed.Query.{ownerOf, hubOf}
+use Rattle.model.specs.Build.Hubs.{Picked, EntryBy}
 use Rattle.model.proofs.Hubs.{picked-as}
 use Rattle.model.proofs.Renumber.{entry-fields}
 use Rattle.rows.specs.Rows.{On, KeepsRows, NextVertex, StepsTo}

@@ -6,8 +6,8 @@ use Prim.Native.Nat.{ℕ, _+_, _≤_, _<_, min}
 use native.Mathlib.Omega.{arith}
 use native.Mathlib.Decide.{ℕ-discrete, decLt}
 use Rattle.model.specs.Limits.{mostVertices}
-use Rattle.rows.specs.Rows.{cell, On, KeepsRows, Becomes, NextVertex, StepsTo}
 use Rattle.rows.specs.Region.{pickedRow}
+use Rattle.rows.specs.Rows.{cell, On, KeepsRows, Becomes, NextVertex, StepsTo}
 use Rattle.rows.proofs.Rows.{becomes-as, keeps-none, keeps-as, keeps-then, keeps-back, keeps-cell, keeps-next, keeps-steps}
 use Rattle.staging.specs.Stage.{Unpicked, Transits}
 use Rattle.staging.specs.Vertex.{Free, Picks}

@@ -8,8 +8,8 @@ use native.Mathlib.Decide.{ℕ-discrete}
 use lib.ListN.{length, getD}
 use Rattle.model.specs.Limits.{mostLabel}
 use Rattle.model.specs.Edges.{fromOf, labelOf, toOf}
-use Rattle.model.proofs.Edges.{edge-fields}
 use Rattle.model.proofs.Lists.{getD-in, in-getD}
+use Rattle.model.proofs.Edges.{edge-fields}
 use Rattle.rows.specs.Rows.{On, Row, KeepsRows, InRows, Becomes}
 use Rattle.rows.proofs.Rows.{row-as, keeps-none, keeps-then, keeps-cell, keeps-row}
 use Rattle.steps.specs.Steps.{Branches}

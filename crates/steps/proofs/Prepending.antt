@@ -5,8 +5,8 @@ use Prim.Native.Nat.{ℕ, zero, suc, _+_, _-_, _*_, _%_, _≤_, _<_}
 use native.Mathlib.Omega.{arith}
 use lib.ListN.{length, getD, drop}
 use lib.Seq.{drop-length, drop-cons}
-use Rattle.model.specs.Lists.{_∈_}
 use Rattle.model.specs.Limits.{mostVertices, mostLabel, leastWork}
+use Rattle.model.specs.Lists.{_∈_}
 use Rattle.model.proofs.Lists.{getD-in}
 use Rattle.rows.specs.Region.{parentRows, savedRows, childRows}
 use Rattle.rows.specs.Rows.{On, Row, KeepsRows, InRows}

@@ -7,8 +7,8 @@ use native.Mathlib.Omega.{arith}
 use native.Mathlib.Nat.{le-refl}
 use native.Mathlib.Decide.{ℕ-discrete, decLt}
 use lib.ListN.{length, getD}
-use Rattle.model.specs.Lists.{Rising}
 use Rattle.model.specs.Limits.{mostVertices, fromUnit, labelUnit}
+use Rattle.model.specs.Lists.{Rising}
 use Rattle.model.proofs.Lists.{getD-in, in-getD, rising-le}
 use Rattle.edges.specs.Slots.{Skipped}
 use Rattle.edges.proofs.Slots.{skipped-least}

@@ -4,10 +4,11 @@ use mathlib.Core.Bool.{true}
 use mathlib.Core.List.{List, [], _∷_, _++_}
 use Prim.Native.Nat.{ℕ, _≤_, _<_}
 use native.Mathlib.Omega.{arith}
-use Rattle.model.specs.Lists.{_∈_}
 use Rattle.model.specs.Limits.{mostVertices}
-use Rattle.model.specs.Edges.{edgeNumber, edge?, bare}
+use Rattle.model.specs.Lists.{_∈_}
+use Rattle.model.specs.Edges.{edgeNumber}
 use Rattle.model.specs.Walks.{Spells}
+use Rattle.model.specs.Computed.Edges.{edge?, bare}
 use Rattle.model.proofs.Edges.{edge-to}
 use Rattle.steps.specs.Steps.{Trail}
 

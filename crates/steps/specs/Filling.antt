@@ -3,8 +3,8 @@ use mathlib.Core.Path.{_≡_}
 use mathlib.Core.List.{List}
 use Prim.Native.Nat.{ℕ, _+_, _≤_, _<_}
 use lib.ListN.{length}
-use Rattle.model.specs.Lists.{_∈_}
 use Rattle.model.specs.Limits.{mostVertices, mostLabel, leastWork}
+use Rattle.model.specs.Lists.{_∈_}
 use Rattle.model.specs.Edges.{edgeNumber}
 use Rattle.rows.specs.Region.{workRows, savedRows}
 use Rattle.rows.specs.Rows.{On, Row, KeepsRows, InRows, Empty}

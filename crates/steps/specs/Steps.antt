@@ -2,8 +2,8 @@
 use mathlib.Core.List.{List, [], _∷_}
 use Prim.Native.Nat.{ℕ, suc, _+_, _-_, _*_, _≤_, _<_}
 use lib.ListN.{length, getD, drop}
-use Rattle.model.specs.Lists.{_∈_, Rising}
 use Rattle.model.specs.Limits.{mostVertices, mostLabel, mostLongest, leastWork}
+use Rattle.model.specs.Lists.{_∈_, Rising}
 use Rattle.model.specs.Edges.{edgeNumber, fromOf, labelOf}
 use Rattle.edges.specs.Slots.{Starts}
 use Rattle.rows.specs.Region.{workRows, stepRows, parentRows, savedRows, childRows}

@@ -10,13 +10,13 @@ use model::TRIPLE_BYTES;
 use patterns::Folded;
 ghost use mathlib.Core.Path.{_≡_};
 ghost use mathlib.Core.List.{[]};
-ghost use Rattle.model.specs.Patterns.{Folds};
 ghost use Rattle.model.specs.Replies.{answeredOf, numberOf, replyOf};
+ghost use Rattle.model.specs.Computed.Patterns.{Folds};
 ghost use Rattle.calls.specs.Call.{lent, Meets};
+ghost use Rattle.calls.specs.Search.{searchCall};
+ghost use Rattle.calls.specs.Query.{queryCall};
 ghost use Rattle.calls.specs.Change.{openCall, insertCall, removeCall};
 ghost use Rattle.calls.specs.Card.{readCall, writeCall};
-ghost use Rattle.calls.specs.Query.{queryCall};
-ghost use Rattle.calls.specs.Search.{searchCall};
 ghost use Rattle.store.specs.Store.{numbers, returned, wroteOf};
 
 // "The record holds the number of places and k."

@@ -5,8 +5,8 @@ use Prim.Native.Nat.{ℕ, suc, _+_, _-_, _≤_, _<_}
 use native.Mathlib.Omega.{arith}
 use lib.ListN.{length, take, drop, set, length-drop, length-set}
 use lib.Seq.{length-take-le, set-split, drop-at}
-use Rattle.model.specs.Lists.{_∈_}
 use Rattle.model.specs.Limits.{mostLabel, mostLongest}
+use Rattle.model.specs.Lists.{_∈_}
 use Rattle.suffixes.specs.Suffixes.{wordOf, Chosen, Child}
 
 module _ {digits : List ℕ} {d longest : ℕ} (h : Chosen digits d longest) where

@@ -8,27 +8,28 @@ use Prim.Native.Nat.{ℕ, suc, _+_, _≤_, _<_}
 use native.Mathlib.Nat.{not-suc-le-zero}
 use native.Mathlib.Omega.{arith}
 use lib.ListN.{length}
-use Rattle.model.specs.Lists.{_∈_, upTo}
 use Rattle.model.specs.Limits.{mostVertices, mostLabel, mostLongest}
-use Rattle.model.specs.Edges.{Graph, edge?, edgeNumber}
+use Rattle.model.specs.Lists.{_∈_, upTo}
+use Rattle.model.specs.Edges.{Graph, edgeNumber}
 use Rattle.model.specs.Patterns.{Pattern, code}
 use Rattle.model.specs.Walks.{Spells, Runs, once, more}
 use Rattle.model.specs.Entries.{IsEntry, entryOf}
-use Rattle.model.specs.Hubs.{EntryBy}
-use Rattle.model.specs.Suffixes.{With, Beyond}
+use Rattle.model.specs.Computed.Edges.{edge?}
+use Rattle.model.specs.Build.Hubs.{EntryBy}
+use Rattle.model.specs.Build.Suffixes.{With, Beyond}
 use Rattle.model.proofs.Tests.{test-yields}
-use Rattle.model.proofs.Edges.{test-edge, edge-fields}
-use Rattle.model.proofs.Walks.{runs-to}
 use Rattle.model.proofs.Patterns.{code-below}
-use Rattle.model.proofs.Codes.{code-inj}
+use Rattle.model.proofs.Walks.{runs-to}
+use Rattle.model.proofs.Edges.{test-edge, edge-fields}
 use Rattle.model.proofs.Hubs.{entry-by-as, pattern-by, entry-pattern, OfPattern, runs-from}
 use Rattle.model.proofs.Suffixes.{all-beyond}
+use Rattle.model.proofs.Codes.{code-inj}
 use Rattle.rows.specs.Rows.{NextVertex}
 use Rattle.rows.proofs.Rows.{next-none}
-use Rattle.steps.specs.Steps.{Trail}
-use Rattle.steps.proofs.Trails.{trail-cut, trail-to, trail-spells, spells-trail}
 use Rattle.closure.specs.Closing.{Plus, one}
 use Rattle.closure.proofs.Plus.{plus-from}
+use Rattle.steps.specs.Steps.{Trail}
+use Rattle.steps.proofs.Trails.{trail-cut, trail-to, trail-spells, spells-trail}
 use Rattle.suffixes.specs.Suffixes.{Spans, PatternEntry, Children}
 
 -- ---- an entry has one pattern

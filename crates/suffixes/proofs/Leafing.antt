@@ -8,18 +8,19 @@ use native.Mathlib.Omega.{arith}
 use lib.ListN.{take, drop, length-drop}
 use lib.Seq.{take-all}
 use Rattle.model.specs.Limits.{mostVertices, mostLabel, mostLongest}
-use Rattle.model.specs.Patterns.{Keyed, own?, code}
-use Rattle.model.specs.Suffixes.{Leaf, Some}
+use Rattle.model.specs.Patterns.{Keyed, code}
+use Rattle.model.specs.Computed.Patterns.{own?}
+use Rattle.model.specs.Build.Suffixes.{Leaf, Some}
 use Rattle.model.proofs.Tests.{test-yields, test-fails}
 use Rattle.model.proofs.Patterns.{test-own, code-below}
 use Rattle.model.proofs.Hubs.{entry-by-as}
 use Rattle.model.proofs.Suffixes.{some-none, some-up, some-more, leaves-apart}
 use Rattle.rows.specs.Rows.{NextVertex}
 use Rattle.rows.proofs.Rows.{keeps-cell, keeps-row}
-use Rattle.steps.proofs.Trails.{trail-edge, edge-trail}
 use Rattle.closure.specs.Closing.{Plus}
 use Rattle.closure.proofs.Plus.{plus-as}
 use Rattle.staging.proofs.Adding.{stages-none, stages-as, stages-then, stages-over}
+use Rattle.steps.proofs.Trails.{trail-edge, edge-trail}
 use Rattle.pattern_entries.specs.Pattern.{Led, PatternStageable, PatternStages, LedEntry}
 use Rattle.suffixes.specs.Suffixes.{Spans, PatternEntry, wordOf, baseOf, Child, LeafStageable}
 use Rattle.suffixes.proofs.Entries.{one-pattern, child-none}

@@ -6,14 +6,14 @@ use native.Mathlib.Omega.{arith}
 use lib.ListN.{take, drop}
 use lib.Seq.{take-all}
 use Rattle.model.specs.Limits.{mostVertices, mostLabel, mostLongest}
-use Rattle.model.specs.Suffixes.{Leaf, Some}
+use Rattle.model.specs.Build.Suffixes.{Leaf, Some}
 use Rattle.rows.specs.Region.{savedRows, openRow}
 use Rattle.rows.specs.Rows.{On, InRows}
 use Rattle.rows.proofs.Rows.{keeps-cell, keeps-row, keeps-empty}
-use Rattle.steps.specs.Steps.{Trail, Word, Sources, FillsParent, Branchable, Branches}
-use Rattle.steps.proofs.Trails.{trail-edge}
 use Rattle.staging.specs.Stage.{Stages}
 use Rattle.staging.proofs.Adding.{stages-since, stages-within}
+use Rattle.steps.specs.Steps.{Trail, Word, Sources, FillsParent, Branchable, Branches}
+use Rattle.steps.proofs.Trails.{trail-edge}
 use Rattle.pattern_entries.specs.Pattern.{PatternStages}
 use Rattle.suffixes.specs.Suffixes.{PatternEntry, wordOf, baseOf, NodeStageable, LeafStageable, LevelStages}
 use Rattle.suffixes.proofs.Children.{word-length}

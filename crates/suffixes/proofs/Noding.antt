@@ -5,15 +5,15 @@ use mathlib.Core.Logic.{_⊎_, inl, ⊎-elim, ⊎-map}
 use Prim.Native.Nat.{ℕ, suc, _+_, _≤_, _<_}
 use native.Mathlib.Omega.{arith}
 use Rattle.model.specs.Limits.{mostVertices, mostLabel}
-use Rattle.model.specs.Suffixes.{Beyond, Leaf, Branch, Some}
+use Rattle.model.specs.Build.Suffixes.{Beyond, Leaf, Branch, Some}
 use Rattle.model.proofs.Suffixes.{some-none, some-up, some-more, beyond-parts, beyond-long, beyond-none, branches-apart, parts-apart}
 use Rattle.rows.specs.Region.{savedRows}
 use Rattle.rows.specs.Rows.{KeepsRows, InRows, NextVertex}
 use Rattle.rows.proofs.Rows.{keeps-then, keeps-cell}
-use Rattle.steps.specs.Steps.{Sources}
-use Rattle.steps.proofs.Prepending.{sources-more}
 use Rattle.staging.specs.Stage.{Stages}
 use Rattle.staging.proofs.Adding.{stages-none, stages-as, stages-then, stages-over, stages-within}
+use Rattle.steps.specs.Steps.{Sources}
+use Rattle.steps.proofs.Prepending.{sources-more}
 use Rattle.suffixes.specs.Suffixes.{PatternEntry, wordOf, baseOf, NodeStageable, Child, LevelStages}
 use Rattle.suffixes.proofs.Entries.{one-pattern, child-none}
 use Rattle.suffixes.proofs.Children.{word-length, child-labels}

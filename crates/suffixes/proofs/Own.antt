@@ -6,7 +6,8 @@ use lib.Dec.{eqb}
 use lib.ListN.{length, take}
 use lib.Seq.{take-length}
 use Rattle.model.specs.Limits.{mostLongest}
-use Rattle.model.specs.Patterns.{Keyed, minRepeat, foldedLength, own?}
+use Rattle.model.specs.Patterns.{Keyed}
+use Rattle.model.specs.Computed.Patterns.{minRepeat, foldedLength, own?}
 use Rattle.model.proofs.Tests.{test-map, test-agree, test-eq, test-same}
 use Rattle.model.proofs.Patterns.{repeat-front, folded-length}
 

@@ -3,15 +3,15 @@ use mathlib.Core.Path.{_≡_}
 use mathlib.Core.List.{List, _∷_}
 use Prim.Native.Nat.{ℕ, suc, _+_, _-_, _*_, _≤_, _<_}
 use lib.ListN.{length, drop}
-use Rattle.model.specs.Lists.{_∈_}
 use Rattle.model.specs.Limits.{mostVertices, mostLabel, mostLongest, leastWork}
+use Rattle.model.specs.Lists.{_∈_}
 use Rattle.model.specs.Patterns.{code}
-use Rattle.model.specs.Hubs.{EntryBy}
+use Rattle.model.specs.Build.Hubs.{EntryBy}
 use Rattle.rows.specs.Region.{stepRows, savedRows, rootRow, childRows}
 use Rattle.rows.specs.Rows.{On, InRows, Empty}
-use Rattle.steps.specs.Steps.{Slotted, Trail, Sources, Parent}
 use Rattle.closure.specs.Closing.{Plus}
 use Rattle.staging.specs.Stage.{Stages}
+use Rattle.steps.specs.Steps.{Slotted, Trail, Sources, Parent}
 
 -- the labels lead from vertex a to vertex b
 pub record Spans (edges l : List ℕ) (a b : ℕ) : Type 0 where

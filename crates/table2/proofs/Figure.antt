@@ -7,12 +7,16 @@ use borrow.Author.Tests.{le-ltb}
 use lib.ListN.{length, take, replicate, length-append}
 use lib.Seq.{take-at}
 use Rattle.model.specs.Limits.{leastWork}
-use Rattle.model.specs.Lists.{any?, all?, keep, from, spread}
-use Rattle.model.specs.Edges.{Graph, edge?, zeros?, risingEdges?, edgeMemory?, standing}
-use Rattle.model.specs.Patterns.{times, repeatFrom, minRepeat, own?, codeFrom, words, patterns}
-use Rattle.model.specs.Order.{weight, place, byWeight, counted, rank, Names}
-use Rattle.model.specs.Levels.{states, leads?, led?, grow, stage, replyFrom, levelReply, runs?}
-use Rattle.model.specs.Entries.{stop?, allStops, earliest?, out?, in?, ofHub, ofOwner, ofSide, entries}
+use Rattle.model.specs.Lists.{any?, keep, from}
+use Rattle.model.specs.Edges.{Graph, standing}
+use Rattle.model.specs.Patterns.{times, codeFrom}
+use Rattle.model.specs.Order.{weight, rank, Names}
+use Rattle.model.specs.Computed.Lists.{all?, spread}
+use Rattle.model.specs.Computed.Edges.{edge?, zeros?, risingEdges?, edgeMemory?}
+use Rattle.model.specs.Computed.Patterns.{repeatFrom, minRepeat, own?, words, patterns}
+use Rattle.model.specs.Computed.Order.{place, byWeight, counted}
+use Rattle.model.specs.Computed.Levels.{states, leads?, led?, grow, stage, replyFrom, levelReply, runs?}
+use Rattle.model.specs.Computed.Entries.{stop?, allStops, earliest?, out?, in?, ofHub, ofOwner, ofSide, entries}
 use Rattle.model.proofs.Tests.{same-out}
 use Rattle.model.proofs.Order.{counted-names}
 use Rattle.edges.specs.Memory.{scanOf}
@@ -20,8 +24,8 @@ use Rattle.edges.proofs.Memory.{Scans, scans}
 use Rattle.build.specs.Build.{Buildable, Builds}
 use Rattle.build.specs.declared.Built.{Built}
 use Rattle.build.specs.declared.Built.the-variants.{Entries, TooMany}
-use Rattle.printing.specs.Lines.{digits, sideLine, entryLine}
 use Rattle.worked_examples.specs.Trials.{figure2, tableII}
+use Rattle.printing.specs.Lines.{digits, sideLine, entryLine}
 
 abbrev pub edges : List ℕ
 edges = 257 ∷ 514 ∷ 4356 ∷ 4612 ∷ 8449 ∷ 8453 ∷ 8704 ∷ 8707 ∷ 12544 ∷ 13061 ∷ 16640 ∷ []

@@ -3,10 +3,10 @@
 use build::Built;
 ghost use Prim.Native.Nat.{_≤_};
 ghost use lib.ListN.{length};
-ghost use Rattle.model.specs.Lists.{spread};
+ghost use Rattle.model.specs.Computed.Lists.{spread};
+ghost use Rattle.worked_examples.specs.Trials.{tableII};
 ghost use Rattle.printing.specs.Puts.{Puts};
 ghost use Rattle.printing.specs.Lines.{entryLine};
-ghost use Rattle.worked_examples.specs.Trials.{tableII};
 
 // Builds the index and writes its lines, which are those of Table II. Returns where they end.
 fn table(out: &mut [u8]) -> usize

@@ -11,9 +11,9 @@ use Rattle.model.specs.declared.Answer.{Answer}
 use Rattle.model.specs.declared.Answer.the-variants.{Accepted, Refused}
 use Rattle.model.proofs.Replies.{number-some}
 use Rattle.calls.specs.Call.{lent, Meets}
+use Rattle.store.specs.Store.{numbers, returned}
 use Rattle.store.specs.declared.Header.{Header}
 use Rattle.store.specs.declared.Changed.{Changed}
-use Rattle.store.specs.Store.{numbers, returned}
 use Rattle.demands.specs.Ledger.{Given, Fed, bookEntries, ruling, LedgerReply, Account, ledger}
 use Rattle.demands.specs.Station.{Call, Station, changeOn, change, headerAfter, after, replyTo, run, fedBy, fedAll}
 use Rattle.demands.specs.Demand3.{blank, standingGraph, Missed, Demand3}

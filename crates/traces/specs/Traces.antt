@@ -14,9 +14,9 @@ use Rattle.model.specs.declared.Answer.the-variants.{Accepted, Refused}
 use Rattle.calls.specs.Call.{Memory, lent, Meets}
 use Rattle.calls.specs.Change.{openCall, insertCall, removeCall}
 use Rattle.calls.specs.Card.{readCall}
+use Rattle.store.specs.Store.{numbers, returned}
 use Rattle.store.specs.declared.Header.{Header}
 use Rattle.store.specs.declared.Changed.{Changed}
-use Rattle.store.specs.Store.{numbers, returned}
 use Rattle.demands.specs.Ledger.{Given, opening, insertion, removal, card, Fed, rising, bookEntries, ruling, LedgerReply, Account, ledger}
 use Rattle.demands.specs.Station.{replyTo}
 use Rattle.demands.specs.Demand3.{blank, Begins, standingGraph, Missed}

@@ -5,8 +5,8 @@ use store::Changed;
 use store::Header;
 ghost use mathlib.Core.List.{[]};
 ghost use Rattle.model.specs.Lists.{Bytes};
-ghost use Rattle.demands.specs.Ledger.{opening, insertion, removal, card as cardOf};
 ghost use Rattle.store.specs.declared.Header.{Header as Kept};
+ghost use Rattle.demands.specs.Ledger.{opening, insertion, removal, card as cardOf};
 ghost use Rattle.traces.specs.Traces.{Step};
 
 pub fn open(header: Header, edges: &mut [u32], index: &mut [u64]) -> Changed

@@ -1,11 +1,15 @@
 -- The worked list, by computation; the ledger's part by demand 3.
 use mathlib.Core.Path.{refl, sym, ap, _∙_}
-use Rattle.model.specs.Lists.{Bytes, any?, all?, keep, from, spread}
-use Rattle.model.specs.Edges.{edge?, zeros?, risingEdges?, edgeMemory?, standing, insertEdge}
-use Rattle.model.specs.Patterns.{times, keyed?, repeatFrom, minRepeat, own?, codeFrom, words, patterns}
-use Rattle.model.specs.Order.{weight, place, byWeight, counted, rank}
-use Rattle.model.specs.Levels.{states, leads?, led?, grow, stage, replyFrom, levelReply, runs?}
-use Rattle.model.specs.Entries.{stop?, allStops, earliest?, out?, in?, ofHub, ofOwner, ofSide, entries, determined}
+use Rattle.model.specs.Lists.{Bytes, any?, keep, from}
+use Rattle.model.specs.Edges.{standing}
+use Rattle.model.specs.Patterns.{times, codeFrom}
+use Rattle.model.specs.Order.{weight, rank}
+use Rattle.model.specs.Computed.Lists.{all?, spread}
+use Rattle.model.specs.Computed.Edges.{edge?, zeros?, risingEdges?, edgeMemory?, insertEdge}
+use Rattle.model.specs.Computed.Patterns.{keyed?, repeatFrom, minRepeat, own?, words, patterns}
+use Rattle.model.specs.Computed.Order.{place, byWeight, counted}
+use Rattle.model.specs.Computed.Levels.{states, leads?, led?, grow, stage, replyFrom, levelReply, runs?}
+use Rattle.model.specs.Computed.Entries.{stop?, allStops, earliest?, out?, in?, ofHub, ofOwner, ofSide, entries, determined}
 use Rattle.model.proofs.Tests.{test-all, test-lt}
 use Rattle.calls.specs.Checks.{firstRefusal}
 use Rattle.calls.specs.Change.{settle, openRefusal, openCall, insertRefusal, insertCall}
@@ -13,9 +17,9 @@ use Rattle.calls.specs.Card.{edgesOf, risingTriples?, cardEdges?, readRefusal, 
 use Rattle.demands.specs.Ledger.{openingNumber, Account}
 use Rattle.demands.specs.Station.{run}
 use Rattle.demands.specs.Demand3.{by-opening, Demand3}
+use Rattle.demands.proofs.Demand3.{demand3}
 use Rattle.worked_examples.specs.Trials.{A, slotsA, cardA}
 use Rattle.worked_examples.specs.Example.{garbage, calls, Example}
-use Rattle.demands.proofs.Demand3.{demand3}
 
 pub bytesA : Bytes cardA
 unfolding cardA all?

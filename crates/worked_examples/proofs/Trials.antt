@@ -1,13 +1,17 @@
 -- All trial runs of the table hold, by one computed test; so each does.
 use mathlib.Core.List.{List·Memᴰ}
 use lib.Dec.{T}
-use Rattle.model.specs.Lists.{any?, all?, keep, from, spread}
-use Rattle.model.specs.Edges.{edge?, zeros?, risingEdges?, edgeMemory?, standing, removeEdge}
-use Rattle.model.specs.Patterns.{times, keyed?, repeatFrom, minRepeat, own?, codeFrom, words, patterns}
-use Rattle.model.specs.Order.{weight, place, byWeight, counted, rank}
-use Rattle.model.specs.Levels.{states, leads?, led?, grow, stage, replyFrom, levelReply, runs?}
-use Rattle.model.specs.Entries.{stop?, allStops, earliest?, out?, in?, ofHub, ofOwner, ofSide, entries, determined}
-use Rattle.model.specs.Query.{digits, code?, entry?, risingEntries?, indexMemory?, answers?}
+use Rattle.model.specs.Lists.{any?, keep, from}
+use Rattle.model.specs.Edges.{standing}
+use Rattle.model.specs.Patterns.{times, codeFrom}
+use Rattle.model.specs.Order.{weight, rank}
+use Rattle.model.specs.Computed.Lists.{all?, spread}
+use Rattle.model.specs.Computed.Edges.{edge?, zeros?, risingEdges?, edgeMemory?, removeEdge}
+use Rattle.model.specs.Computed.Patterns.{keyed?, repeatFrom, minRepeat, own?, words, patterns}
+use Rattle.model.specs.Computed.Order.{place, byWeight, counted}
+use Rattle.model.specs.Computed.Levels.{states, leads?, led?, grow, stage, replyFrom, levelReply, runs?}
+use Rattle.model.specs.Computed.Entries.{stop?, allStops, earliest?, out?, in?, ofHub, ofOwner, ofSide, entries, determined}
+use Rattle.model.specs.Computed.Query.{digits, code?, entry?, risingEntries?, indexMemory?, answers?}
 use Rattle.model.proofs.Tests.{test-all, test-T}
 use Rattle.calls.specs.Checks.{firstRefusal}
 use Rattle.calls.specs.Search.{searchRefusal, searchCall}

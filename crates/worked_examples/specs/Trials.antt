@@ -4,16 +4,17 @@ use mathlib.Core.List.{List, [], _∷_}
 use Prim.Native.Nat.{ℕ, _+_}
 use lib.Dec.{eqb}
 use lib.ListN.{length, replicate}
-use Rattle.model.specs.Lists.{same?}
 use Rattle.model.specs.Limits.{leastWork}
-use Rattle.model.specs.Edges.{edgeNumber, standing, removeEdge}
-use Rattle.model.specs.Patterns.{minRepeat}
-use Rattle.model.specs.Levels.{Reply, Yes, No, Spent, Refused}
-use Rattle.model.specs.Entries.{determined}
+use Rattle.model.specs.Edges.{edgeNumber, standing}
 use Rattle.model.specs.Query.{Answered, Yes as AnsweredYes, No as AnsweredNo, Refused as AnsweredRefused}
+use Rattle.model.specs.States.{Reply, Yes, No, Spent, Refused}
+use Rattle.model.specs.Computed.Lists.{same?}
+use Rattle.model.specs.Computed.Edges.{removeEdge}
+use Rattle.model.specs.Computed.Patterns.{minRepeat}
+use Rattle.model.specs.Computed.Entries.{determined}
+use Rattle.calls.specs.Call.{Header, Memory, lent, Outcome}
 use Rattle.calls.specs.Search.{searchCall}
 use Rattle.calls.specs.Query.{queryCall}
-use Rattle.calls.specs.Call.{Header, Memory, lent, Outcome}
 use Rattle.calls.specs.Change.{Returned, removeCall}
 use Rattle.calls.specs.Card.{readCall}
 

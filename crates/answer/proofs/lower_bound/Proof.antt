@@ -2,7 +2,7 @@
 use Prim.Native.Nat.{_-_}
 use native.Mathlib.Omega.{arith}
 use borrow.Author.Needs.{needs}
-use Rattle.model.specs.Lists.{Bracket}
+use Rattle.model.specs.Computed.Lists.{Bracket}
 use Rattle.model.proofs.Halving.{bracket-start, bracket-right, bracket-left, bracket-met}
 use Rattle.answer.proofs.lower_bound.Statement.{statement}
 use Rattle.answer.proofs.lower_bound.Tie as tie

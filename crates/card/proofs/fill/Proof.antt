@@ -4,9 +4,9 @@ use Prim.Native.Nat.{_-_, _≤_}
 use native.Mathlib.Omega.{arith}
 use lib.ListN.{length, drop}
 use Rattle.model.specs.Limits.{headBytes}
-use Rattle.calls.specs.Card.{edgesOf}
 use Rattle.edges.proofs.Mix.{Mixed}
 use Rattle.edges.proofs.Copying.{save-start, save-end}
+use Rattle.calls.specs.Card.{edgesOf}
 use Rattle.card.proofs.Filling.{cardEdges, card-edges-size, fill-turn, zeros-behind}
 use borrow.Author.Needs.{needs}
 use Rattle.card.proofs.fill.Statement.{statement}

@@ -3,9 +3,9 @@ use mathlib.Core.Path.{sym, ap, _∙_}
 use native.Mathlib.Omega.{arith}
 use borrow.Author.Needs.{needs}
 use Rattle.model.specs.Limits.{headBytes}
+use Rattle.model.proofs.Lists.{part-all}
 use Rattle.calls.specs.Card.{headerOf, risingTriples?}
 use Rattle.calls.proofs.Card.{card-edges-long, card-edges-body}
-use Rattle.model.proofs.Lists.{part-all}
 use Rattle.card.proofs.has_edges.Statement.{statement}
 use Rattle.card.proofs.has_edges.Tie as tie
 

@@ -6,7 +6,8 @@ use native.Mathlib.Omega.{arith}
 use borrow.Author.Needs.{needs}
 use lib.ListN.{length}
 use Rattle.model.specs.Lists.{filled}
-use Rattle.model.specs.Edges.{edgeNumber, standing, insertEdge}
+use Rattle.model.specs.Edges.{edgeNumber, standing}
+use Rattle.model.specs.Computed.Edges.{insertEdge}
 use Rattle.calls.specs.Call.{Header, Memory, lent}
 use Rattle.named.specs.Named.{Places}
 use Rattle.named.proofs.Naming.{numbered}

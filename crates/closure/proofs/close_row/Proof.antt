@@ -4,8 +4,8 @@ use Prim.Native.Nat.{_≤_, _<_}
 use native.Mathlib.Omega.{arith}
 use lib.ListN.{length}
 use Rattle.model.specs.Limits.{mostVertices, leastWork}
-use Rattle.rows.specs.Rows.{cell}
 use Rattle.rows.specs.Region.{openRow}
+use Rattle.rows.specs.Rows.{cell}
 use Rattle.closure.proofs.Sums.{sum}
 use Rattle.closure.proofs.Looked.{Looked, opened-whole, opened-none, opened-closed, looked-all, looked-more, looked-falls}
 use Rattle.closure.proofs.close_row.Statement.{statement}

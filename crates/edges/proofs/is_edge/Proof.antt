@@ -1,6 +1,6 @@
 -- `edges::is_edge` meets its contract. Each return is the outcome of the tests before it.
 use borrow.Author.Tests.{lt-ltb, le-ltb, le-leb, lt-leb}
-use Rattle.model.specs.Edges.{edge?}
+use Rattle.model.specs.Computed.Edges.{edge?}
 use Rattle.edges.proofs.is_edge.Statement.{statement}
 use Rattle.edges.proofs.is_edge.Tie as tie
 

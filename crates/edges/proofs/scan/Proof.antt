@@ -6,7 +6,7 @@ use Prim.Native.Nat.{ℕ, _+_, _-_, _≤_, _<_}
 use native.Mathlib.Omega.{arith}
 use borrow.Author.Needs.{needs}
 use lib.ListN.{length, getD, take, drop}
-use Rattle.model.specs.Edges.{edge?, zeros?}
+use Rattle.model.specs.Computed.Edges.{edge?, zeros?}
 use Rattle.model.proofs.Checked.{checked-rest, checked-next, checked-zeros, checked-end}
 use Rattle.edges.specs.Memory.{scanOf}
 use Rattle.edges.specs.declared.Scanned.the-variants.{Edges, Invalid}

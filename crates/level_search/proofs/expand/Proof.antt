@@ -3,8 +3,8 @@ use Prim.Native.Nat.{_+_, _/_, _%_, _<_}
 use native.Mathlib.Nat.{mod-lt}
 use native.Mathlib.Omega.{arith}
 use lib.ListN.{length, getD}
-use Rattle.level_search.proofs.Grow.{grown-as}
 use Rattle.edges.proofs.Slots.{under-up}
+use Rattle.level_search.proofs.Grow.{grown-as}
 use Rattle.level_search.proofs.Leads.{ahead-leads, leads-ahead}
 use borrow.Author.Needs.{needs}
 use Rattle.level_search.proofs.expand.Statement.{statement}

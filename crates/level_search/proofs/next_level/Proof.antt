@@ -5,7 +5,7 @@ use native.Mathlib.Nat.{le-refl, le-antisymm}
 use native.Mathlib.Omega.{arith}
 use lib.ListN.{length}
 use Rattle.model.specs.Limits.{leastWork}
-use Rattle.model.specs.Levels.{mostStates}
+use Rattle.model.specs.Computed.Levels.{mostStates}
 use Rattle.level_search.specs.Work.{Grown, LedTo, queue}
 use Rattle.level_search.proofs.Grow.{room-top}
 use Rattle.level_search.proofs.Leads.{next-none, next-more}

@@ -3,7 +3,7 @@ use Prim.Native.Nat.{_≤_}
 use borrow.Author.Needs.{needs}
 use native.Mathlib.Omega.{arith}
 use lib.ListN.{length-set}
-use Rattle.model.specs.Levels.{mostStates}
+use Rattle.model.specs.Computed.Levels.{mostStates}
 use Rattle.level_search.proofs.Grow.{room-left, grown-old, grown-new}
 use Rattle.level_search.proofs.reach.Statement.{statement}
 use Rattle.level_search.proofs.reach.Tie as tie

@@ -3,8 +3,8 @@ use Prim.Native.Nat.{_+_, _-_, _≤_, _<_}
 use native.Mathlib.Nat.{le-refl, le-antisymm}
 use native.Mathlib.Omega.{arith}
 use lib.ListN.{length, getD}
-use Rattle.level_search.specs.Work.{Grown, Ahead}
 use Rattle.edges.proofs.Slots.{skipped-least}
+use Rattle.level_search.specs.Work.{Grown, Ahead}
 use Rattle.level_search.proofs.Spreading.{run-none, run-more, run-all}
 use Rattle.level_search.proofs.spread.Statement.{statement}
 use Rattle.level_search.proofs.spread.Tie as tie

@@ -4,7 +4,7 @@ use native.Mathlib.Omega.{arith}
 use borrow.Author.Needs.{needs}
 use lib.ListN.{getD}
 use Rattle.model.specs.Limits.{mostVertices}
-use Rattle.model.specs.Query.{ownerOf, hubOf}
+use Rattle.model.specs.Computed.Query.{ownerOf, hubOf}
 use Rattle.output.proofs.put_one.Statement.{statement}
 use Rattle.output.proofs.put_one.Tie as tie
 

@@ -6,8 +6,8 @@ use native.Mathlib.Nat.{le-refl}
 use native.Mathlib.Omega.{arith}
 use borrow.Author.Needs.{needs}
 use lib.ListN.{length, drop, getD}
-use Rattle.model.specs.Patterns.{code, codeFrom}
 use Rattle.model.specs.Limits.{hubUnit, mostLongest}
+use Rattle.model.specs.Patterns.{code, codeFrom}
 use Rattle.model.proofs.Patterns.{code-below, code-ge}
 use Rattle.patterns.proofs.Coding.{code-more, code-end}
 use Rattle.patterns.proofs.code.Statement.{statement}

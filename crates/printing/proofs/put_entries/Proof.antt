@@ -4,7 +4,7 @@ use Prim.Native.Nat.{_+_, _-_, _*_, _≤_}
 use native.Mathlib.Omega.{arith}
 use borrow.Author.Needs.{needs}
 use lib.ListN.{length, take, getD}
-use Rattle.model.specs.Lists.{spread}
+use Rattle.model.specs.Computed.Lists.{spread}
 use Rattle.printing.specs.Puts.{Puts}
 use Rattle.printing.specs.Lines.{entryLine}
 use Rattle.printing.proofs.Putting.{puts-none, puts-then, entry-length, lines-none, lines-more, lines-all}

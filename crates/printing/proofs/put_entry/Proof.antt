@@ -3,7 +3,7 @@ use Prim.Native.Nat.{_+_, _≤_}
 use native.Mathlib.Omega.{arith}
 use borrow.Author.Needs.{needs}
 use lib.ListN.{length}
-use Rattle.model.specs.Query.{hubOf, codeOf}
+use Rattle.model.specs.Computed.Query.{hubOf, codeOf}
 use Rattle.printing.specs.Lines.{space}
 use Rattle.printing.proofs.Putting.{puts-then, digits-length, field-length, side-length, entry-is}
 use Rattle.printing.proofs.put_entry.Statement.{statement}

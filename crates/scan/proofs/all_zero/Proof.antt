@@ -4,7 +4,7 @@ use Prim.Native.Nat.{_≤_, _-_}
 use native.Mathlib.Omega.{arith}
 use borrow.Author.Needs.{needs}
 use lib.ListN.{length, drop}
-use Rattle.model.specs.Edges.{zeros?}
+use Rattle.model.specs.Computed.Edges.{zeros?}
 use Rattle.model.proofs.Zeros.{zeros-stop, zeros-more, zeros-end}
 use Rattle.scan.proofs.all_zero.Statement.{statement}
 use Rattle.scan.proofs.all_zero.Tie as tie

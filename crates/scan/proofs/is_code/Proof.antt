@@ -3,8 +3,8 @@ use mathlib.Core.Path.{_≡_, sym, ap, _∙_}
 use mathlib.Core.Bool.{true, false, not, Bool·not-not}
 use borrow.Author.Needs.{needs}
 use Rattle.model.specs.Limits.{codeDigits}
-use Rattle.model.specs.Patterns.{keyed?}
-use Rattle.model.specs.Query.{digits}
+use Rattle.model.specs.Computed.Patterns.{keyed?}
+use Rattle.model.specs.Computed.Query.{digits}
 use Rattle.scan.proofs.Codes.{code-is, spelled-by}
 use Rattle.scan.proofs.is_code.Statement.{statement}
 use Rattle.scan.proofs.is_code.Tie as tie

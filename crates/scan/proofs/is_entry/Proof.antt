@@ -3,7 +3,7 @@ use mathlib.Core.Path.{_≡_, sym, _∙_}
 use mathlib.Core.Bool.{Bool}
 use native.Mathlib.Omega.{arith}
 use borrow.Author.Needs.{needs}
-use Rattle.model.specs.Query.{codeOf, code?, entry?}
+use Rattle.model.specs.Computed.Query.{codeOf, code?, entry?}
 use Rattle.scan.proofs.Fields.{seen-more, no-entry, code-entry}
 use Rattle.scan.proofs.is_entry.Statement.{statement}
 use Rattle.scan.proofs.is_entry.Tie as tie

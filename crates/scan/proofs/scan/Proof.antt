@@ -7,16 +7,16 @@ use Prim.Native.Nat.{ℕ, _+_, _-_, _≤_, _<_}
 use native.Mathlib.Omega.{arith}
 use borrow.Author.Needs.{needs}
 use lib.ListN.{length, getD, take, drop}
-use Rattle.model.specs.Edges.{zeros?}
-use Rattle.model.specs.Query.{sideOf, entry?}
+use Rattle.model.specs.Computed.Edges.{zeros?}
+use Rattle.model.specs.Computed.Query.{sideOf, entry?}
 use Rattle.model.proofs.Checked.{checked-zeros}
 use Rattle.scan.specs.Memory.{scanOf, scanFrom}
 use Rattle.scan.specs.Scan.{Seen, Within, extentAt}
 use Rattle.scan.specs.declared.Extent.{Extent}
 use Rattle.scan.specs.declared.Extent.the-variants.{Entries, Invalid}
 use Rattle.scan.specs.declared.Exit.{Exit}
-use Rattle.scan.proofs.Scanning.{scan-start}
 use Rattle.scan.proofs.Fields.{seen-none, hubs-below, within, entry-side}
+use Rattle.scan.proofs.Scanning.{scan-start}
 use Rattle.scan.proofs.scan.Statement.{statement}
 use Rattle.scan.proofs.scan.Tie as tie
 

@@ -6,13 +6,13 @@ use Prim.Native.Nat.{ℕ, _+_, _-_, _≤_, _<_}
 use borrow.Fn.Kinds.{In}
 use borrow.Fn.PlainCycle.{Measures, is, falls, and}
 use Rattle.model.specs.Limits.{mostLabel, mostLongest}
+use Rattle.rows.proofs.next.Reads as next-reads
 use Rattle.suffixes.proofs.Noding.{Going, going-at, going-none, going-skip, going-more, child-node, node-full, node-short, node-over, node-all}
 use Rattle.suffixes.proofs.node.Reads as node
 use Rattle.suffixes.proofs.node.Kinds as node-kinds
 use Rattle.suffixes.proofs.+node.Lts-node as node-lts
 use Rattle.suffixes.proofs.child.Reads as child-reads
 use Rattle.suffixes.proofs.level.Reads as level-reads
-use Rattle.rows.proofs.next.Reads as next-reads
 use Rattle.suffixes.proofs.+node.{statement}
 use Rattle.suffixes.proofs.+node.Tie.{close}
 

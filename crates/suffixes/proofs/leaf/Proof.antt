@@ -6,7 +6,8 @@ use native.Mathlib.Omega.{arith}
 use lib.ListN.{take, drop}
 use borrow.Author.Needs.{needs}
 use Rattle.model.specs.Limits.{mostLongest}
-use Rattle.model.specs.Patterns.{Keyed, own?, code as codeOf}
+use Rattle.model.specs.Patterns.{Keyed, code as codeOf}
+use Rattle.model.specs.Computed.Patterns.{own?}
 use Rattle.model.proofs.Patterns.{keyed-up}
 use Rattle.suffixes.specs.Suffixes.{wordOf}
 use Rattle.suffixes.proofs.Leafing.{leaf-empty, part-word, keyed, leaf-folds, pattern-stageable, leaf-stages}

@@ -3,7 +3,7 @@ use Prim.Native.Nat.{_-_, _≤_}
 use mathlib.Core.Path.{_∙_}
 use native.Mathlib.Omega.{arith}
 use Rattle.model.specs.Limits.{mostLabel}
-use Rattle.model.specs.Suffixes.{Leaf, Some}
+use Rattle.model.specs.Build.Suffixes.{Leaf, Some}
 use Rattle.pattern_entries.specs.Pattern.{PatternStages}
 use Rattle.suffixes.specs.Suffixes.{PatternEntry, wordOf}
 use Rattle.suffixes.proofs.Leafing.{leaves-none, leaves-stageable, leaves-more, leaves-over, leaves-all}

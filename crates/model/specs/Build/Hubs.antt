@@ -1,7 +1,15 @@
 -- The entries of one pattern by their hubs, over vertices in their own order.
 use mathlib.Core.Path.{_≡_}
+use mathlib.Core.Logic.{_⊎_}
+use mathlib.Core.List.{List}
 use Prim.Native.Nat.{ℕ, _+_, _≤_, _<_}
+use Rattle.model.specs.Edges.{Graph}
+use Rattle.model.specs.Walks.{Runs}
 use Rattle.model.specs.Entries.{entryOf}
+
+-- what stops come to: the start, the end, or a vertex where one walk that runs l ends and another starts
+abbrev pub Between : Graph → List ℕ → ℕ → ℕ → ℕ → Type 0
+Between g l s t u = (u ≡ s) ⊎ ((u ≡ t) ⊎ (Runs g l s u × Runs g l u t))
 
 -- e is the entry of an owner and a hub on one side, by a relation from hub to owner: the owner comes no earlier than the hub (on side 1,
 -- later), and no vertex earlier than the hub stands between the two

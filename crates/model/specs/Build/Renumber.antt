@@ -2,12 +2,12 @@
 use mathlib.Core.List.{List}
 use Prim.Native.Nat.{ℕ, _≤_, _<_}
 use lib.ListN.{getD}
-use Rattle.model.specs.Lists.{_∈_}
 use Rattle.model.specs.Limits.{mostLabel}
+use Rattle.model.specs.Lists.{_∈_}
 use Rattle.model.specs.Edges.{edgeNumber}
 use Rattle.model.specs.Order.{rank}
 use Rattle.model.specs.Entries.{entryOf}
-use Rattle.model.specs.Query.{sideOf, ownerOf, hubOf, codeOf}
+use Rattle.model.specs.Computed.Query.{sideOf, ownerOf, hubOf, codeOf}
 
 -- the edges, with both ends replaced by their ranks. (With a label of 16 or more, an edge number would have a second reading.)
 pub record Renumbers (n : ℕ) (order edges edges′ : List ℕ) : Type 0 where
