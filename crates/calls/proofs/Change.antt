@@ -19,8 +19,8 @@ use Rattle.model.specs.declared.Answer.the-variants.{Accepted, Refused}
 use Rattle.model.proofs.Tests.{test-and, test-le, test-true, test-false, test-yields}
 use Rattle.model.proofs.Replies.{number-some}
 use Rattle.calls.specs.Checks.{Check, firstRefusal}
-use Rattle.calls.specs.Call.{Header, graphOf, Memory, Outcome, refusing, Meets}
-use Rattle.calls.specs.Change.{Returned, refusedWith, answers, fits?, settle, openRefusal, openCall, changeChecks, changeRefusal, insertRefusal, insertCall, removeRefusal, removeCall}
+use Rattle.calls.specs.Call.{Header, graphOf, Memory, Outcome, refusing, Meets, Returned}
+use Rattle.calls.specs.Change.{refusedWith, answers, fits?, settle, openRefusal, openCall, changeChecks, changeRefusal, insertRefusal, insertCall, removeRefusal, removeCall}
 use Rattle.calls.proofs.Checks.{numbered?, Passed, done, also, passes, test-vertices, test-longest, test-ends}
 
 -- ---- checks, and then further ones

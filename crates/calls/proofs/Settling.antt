@@ -9,8 +9,8 @@ use lib.ListN.{length}
 use Rattle.model.specs.Lists.{filled, zeroed}
 use Rattle.model.specs.Computed.Entries.{determined}
 use Rattle.calls.specs.Checks.{Check, firstRefusal}
-use Rattle.calls.specs.Call.{Header, graphOf, Memory, Outcome, refusing}
-use Rattle.calls.specs.Change.{Returned, refusedWith, fits?, settle}
+use Rattle.calls.specs.Call.{Header, graphOf, Memory, Outcome, refusing, Returned}
+use Rattle.calls.specs.Change.{refusedWith, fits?, settle}
 use Rattle.calls.proofs.Checks.{numbered?}
 use Rattle.calls.proofs.Change.{stop-first, pass-first}
 

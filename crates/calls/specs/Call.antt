@@ -33,6 +33,19 @@ pub record Outcome (R : Type 0) : Type 0 where
   pub reply : R
   pub memory : Memory
 
+-- the reply of a changing call: the record that it hands back, and 0 or the number of the refusal
+pub record Returned : Type 0 where
+  pub header : Header
+  pub answer : ℕ
+
+-- "for a card, no record": a record that is all zero stands for none
+abbrev pub noRecord : Header
+noRecord = record { vertices = 0; longest = 0 }
+
+-- the reply of a card's writing: its length, or the number of the refusal
+pub data Wrote : Type 0 where
+  Length Refused : ℕ → Wrote
+
 -- "The first that applies is returned. .. All lent memory is unchanged": the refusal with that number, or if there is none what the call comes to
 abbrev pub refusing : {R : Type 0} → (ℕ → R) → Memory → ℕ → Outcome R → Outcome R
 refusing refused m zero done = done

@@ -9,8 +9,8 @@ use Rattle.model.specs.Edges.{edgeNumber, fromOf, labelOf, toOf, standing}
 use Rattle.model.specs.Computed.Lists.{same?, spread}
 use Rattle.model.specs.Computed.Edges.{label?, edgeMemory?}
 use Rattle.calls.specs.Checks.{vertices?, longest?, ends?, Check, firstRefusal}
-use Rattle.calls.specs.Call.{Header, Memory, Outcome, refusing}
-use Rattle.calls.specs.Change.{Returned, refusedWith, buildRoom?, settle}
+use Rattle.calls.specs.Call.{Header, Memory, Outcome, Returned, noRecord, Wrote, Length, Refused, refusing}
+use Rattle.calls.specs.Change.{refusedWith, buildRoom?, settle}
 
 -- "the mark PRC"
 abbrev pub mark : List ℕ
@@ -90,10 +90,6 @@ readRefusal card m =
     ++ ((3, leb (length (m .edges)) mostEdges) ∷ (9, leb (countOf card) (length (m .edges))) ∷ (4, buildRoom? m) ∷ [])
     )
 
--- "for a card, no record": a record that is all zero stands for none
-abbrev pub noRecord : Header
-noRecord = record { vertices = 0; longest = 0 }
-
 -- "Reading a card fills leg and index memory as if a fresh layout had received those legs; 13 looks at the finished index only."
 unfoldable pub readCall : List ℕ → Memory → Outcome Returned
 readCall card m =
@@ -111,10 +107,6 @@ writeRefusal h m =
     ∷ (17, leb (headBytes + tripleBytes * length (standing (m .edges))) (length (m .output)))
     ∷ []
     )
-
--- the card's length, or the number of the refusal
-pub data Wrote : Type 0 where
-  Length Refused : ℕ → Wrote
 
 -- "A written card touches only its own length of the output, and its length is returned."
 unfoldable pub writeCall : Header → Memory → Outcome Wrote

@@ -10,12 +10,7 @@ use Rattle.model.specs.Edges.{edgeNumber, standing}
 use Rattle.model.specs.Computed.Edges.{label?, edgeMemory?, insertEdge, removeEdge}
 use Rattle.model.specs.Computed.Entries.{determined}
 use Rattle.calls.specs.Checks.{vertices?, longest?, ends?, Check, firstRefusal}
-use Rattle.calls.specs.Call.{Header, graphOf, Memory, cleared, Outcome, refusing}
-
--- what a changing call replies: the record that it hands back, and 0 or the number of the refusal
-pub record Returned : Type 0 where
-  pub header : Header
-  pub answer : ℕ
+use Rattle.calls.specs.Call.{Header, graphOf, Memory, cleared, Outcome, Returned, refusing}
 
 -- "returned with the record as given"
 abbrev pub refusedWith : Header → ℕ → Returned

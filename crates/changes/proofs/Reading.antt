@@ -12,9 +12,9 @@ use Rattle.model.specs.declared.Refusal.{Refusal}
 use Rattle.model.specs.declared.Answer.{Answer}
 use Rattle.model.proofs.Tests.{test-le, test-true, test-false, test-yields}
 use Rattle.model.proofs.Replies.{number-some}
-use Rattle.calls.specs.Call.{Header, Memory, Meets}
+use Rattle.calls.specs.Call.{Header, Memory, Meets, noRecord}
 use Rattle.calls.specs.Change.{refusedWith, answers, buildRoom?, settle}
-use Rattle.calls.specs.Card.{headerOf, countOf, edgesOf, cardChecks, cardRefusal, readRefusal, readCall, noRecord}
+use Rattle.calls.specs.Card.{headerOf, countOf, edgesOf, cardChecks, cardRefusal, readRefusal, readCall}
 use Rattle.calls.proofs.Checks.{none, pass, stop, first-is, Passed, done, also, passes}
 use Rattle.calls.proofs.Calls.{refused-meets, accepted-is}
 use Rattle.calls.proofs.Change.{stop-first, pass-first, front-passes, handedBy, with-header, settle-hands}

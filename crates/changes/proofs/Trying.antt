@@ -11,9 +11,8 @@ use Rattle.model.specs.Lists.{_∈_, Rising, filled}
 use Rattle.model.specs.Edges.{Bounds}
 use Rattle.model.specs.Computed.Edges.{edge?}
 use Rattle.model.proofs.Memory.{length-filled}
-use Rattle.calls.specs.Call.{Header, Memory, lent, Meets}
+use Rattle.calls.specs.Call.{Header, Memory, lent, Meets, noRecord}
 use Rattle.calls.specs.Change.{answers, settle}
-use Rattle.calls.specs.Card.{noRecord}
 use Rattle.calls.proofs.Change.{settle-same}
 use Rattle.rows.specs.Region.{savedNumbers}
 use Rattle.settle.specs.Settle.{savedIn, Saves, Settleable}

@@ -3,8 +3,7 @@ use mathlib.Core.Path.{_≡_}
 use mathlib.Core.List.{List}
 use Prim.Native.Nat.{ℕ}
 use Rattle.model.specs.Replies.{numberOf, answerOf}
-use Rattle.calls.specs.Call.{Header, Memory}
-use Rattle.calls.specs.Change.{Returned}
+use Rattle.calls.specs.Call.{Header, Memory, Returned}
 use Rattle.calls.specs.Card.{headerOf, countOf, readRefusal}
 use Rattle.changes.specs.declared.CardRead.{CardRead}
 use Rattle.changes.specs.declared.Layout.{Layout}

@@ -12,15 +12,16 @@ use Rattle.model.specs.Lists.{any?, upTo, Bytes}
 use Rattle.model.specs.Computed.Entries.{determined}
 use Rattle.model.proofs.Tests.{test-true, test-false, test-yields, test-fails, test-and, test-eq, test-le, test-lt, test-T}
 use Rattle.calls.specs.Checks.{Check, firstRefusal}
-use Rattle.calls.specs.Call.{Memory, graphOf}
+use Rattle.calls.specs.Call.{Memory, graphOf, noRecord}
 use Rattle.calls.specs.Change.{buildRoom?, fits?}
-use Rattle.calls.specs.Card.{marked?, headerOf, countOf, edgesOf, risingTriples?, cardEdges?, cardChecks, readRefusal, noRecord, readCall}
+use Rattle.calls.specs.Card.{marked?, headerOf, countOf, edgesOf, risingTriples?, cardEdges?, cardChecks, readRefusal, readCall}
 use Rattle.calls.proofs.Checks.{test-longest}
 use Rattle.calls.proofs.Card.{marked-short, marked-at, card-edges-long, card-edges-body, triples-good, length-edges, card-vertices}
 use Rattle.calls.proofs.Settling.{Result, settledChange, settled}
 use Rattle.calls.proofs.Passing.{passing}
 use Rattle.demands.specs.Ledger.{Book, card as cardGiven, rising, bookEntries, narrow, full, byte, edgeCount, edgeAt, stray, falls, cardBook, cardNumber, nothing, turn}
-use Rattle.demands.specs.Station.{Call, Station, memoryOf, fedBy, replyTo}
+use Rattle.demands.specs.Terms.{replyTo}
+use Rattle.demands.specs.Run.Station.{Call, Station, memoryOf, fedBy}
 use Rattle.demands.proofs.Rising.{EdgesOf, rising-is}
 use Rattle.demands.proofs.Numbers.{Gives, gives-none, chain, above-not, either-not, outside-not}
 use Rattle.demands.proofs.Steps.{stationOf, Fine, edge-slots, index-slots, Reaches, Matches, matches, begins, first-reply}

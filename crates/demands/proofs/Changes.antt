@@ -24,7 +24,7 @@ use Rattle.calls.proofs.Checks.{test-ends}
 use Rattle.calls.proofs.Settling.{settledChange, settled}
 use Rattle.calls.proofs.Passing.{passing}
 use Rattle.demands.specs.Ledger.{Book, Fed, insertion, removal, rising, bookEntries, narrow, full, namedNumber, inserted, insertionNumber, removed, removalNumber, shows, turn}
-use Rattle.demands.specs.Station.{Call, memoryOf, fedBy}
+use Rattle.demands.specs.Run.Station.{Call, memoryOf, fedBy}
 use Rattle.demands.proofs.Rising.{EdgesOf, edge-below, rising-rises, rising-in, rising-out, rising-is}
 use Rattle.demands.proofs.Numbers.{Gives, gives-none, chain, above-not, from-not, either-not, not-not, outside-not}
 use Rattle.demands.proofs.Steps.{recordOf, stationOf, Fine, edge-slots, index-slots, Reaches, Matches, matches}

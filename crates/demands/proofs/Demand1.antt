@@ -15,11 +15,11 @@ use Rattle.model.specs.Levels.{Told, found, ended, stopped}
 use Rattle.model.proofs.Tests.{test-and, test-not, test-eq, test-T}
 use Rattle.model.proofs.Search.{told}
 use Rattle.calls.specs.Checks.{Check, firstRefusal}
-use Rattle.calls.specs.Call.{Header, graphOf, Memory, cleared, Outcome, refusing}
+use Rattle.calls.specs.Call.{Header, graphOf, Memory, cleared, Outcome, refusing, Returned, Wrote, Length, Refused as NotWritten}
 use Rattle.calls.specs.Search.{searchRefusal, searchCall}
 use Rattle.calls.specs.Query.{queryRefusal, queryCall}
-use Rattle.calls.specs.Change.{Returned, refusedWith, fits?, settle, openRefusal, openCall, insertRefusal, insertCall, removeRefusal, removeCall}
-use Rattle.calls.specs.Card.{Wrote, Length, Refused as NotWritten, readRefusal, readCall, cardOf, writeRefusal, writeCall}
+use Rattle.calls.specs.Change.{refusedWith, fits?, settle, openRefusal, openCall, insertRefusal, insertCall, removeRefusal, removeCall}
+use Rattle.calls.specs.Card.{readRefusal, readCall, cardOf, writeRefusal, writeCall}
 use Rattle.demands.specs.Demand1.{Keeps, ChangeKeeps, searchNumber, writeNumber, Demand1}
 
 -- an accepted call refuses nothing

@@ -16,21 +16,18 @@ use Rattle.model.proofs.Tests.{test-true, test-le}
 use Rattle.model.proofs.Memory.{edge-memory, edge-least, standing-filled, filled-memory}
 use Rattle.model.proofs.Zeros.{filled-within}
 use Rattle.calls.specs.Checks.{vertices?, longest?, Check, firstRefusal}
-use Rattle.calls.specs.Call.{Header, graphOf, Memory, Outcome}
+use Rattle.calls.specs.Call.{Header, graphOf, Memory, Outcome, noRecord, Wrote, Length}
 use Rattle.calls.specs.Change.{buildRoom?, fits?}
-use Rattle.calls.specs.Card.{headerOf, countOf, edgesOf, cardOf, cardChecks, cardRefusal, readRefusal, noRecord, readCall, Wrote, Length, writeRefusal, writeCall}
+use Rattle.calls.specs.Card.{headerOf, countOf, edgesOf, cardOf, cardChecks, cardRefusal, readRefusal, readCall, writeRefusal, writeCall}
 use Rattle.calls.proofs.Checks.{none, pass, first-is, bounded, bounds-pass}
 use Rattle.calls.proofs.Change.{pass-first}
 use Rattle.calls.proofs.Card.{card-good, Cardable, CardSays, card-says, card-again}
 use Rattle.calls.proofs.Settling.{settledChange, settled}
 use Rattle.calls.proofs.Passing.{passing}
-use Rattle.demands.specs.Demand3.{standingGraph}
 use Rattle.demands.specs.Demand2.{Roomy, Restores, Demand2}
 use Rattle.demands.proofs.Demand1.{kind, numberIn}
-use Rattle.demands.proofs.Demand3.{agreed}
 use Rattle.demands.proofs.Reading.{Said, read-said}
-use Rattle.demands.proofs.Right.{right, changes-right}
-use Rattle.demands.proofs.Receiving.{receiving-same}
+use Rattle.demands.proofs.Right.{open-right, insert-right, remove-right, read-right}
 
 -- ---- (b) a card that was written, read again
 
@@ -151,11 +148,10 @@ writing bytes output m small e long =
 pub demand2 : Demand2
 demand2 =
     record {
-      changes = changes-right;
-      questions = λ s first more begins e.
-          let a = agreed s first more begins e in
-          rw (a .station) (right (standingGraph _) (a .fine .bounds) (length (s .index)));
+      opens = open-right;
+      inserts = insert-right;
+      removes = remove-right;
+      reads = read-right;
       reading = reading;
       writing = writing;
-      receiving-same = receiving-same;
     }

@@ -16,13 +16,15 @@ use Rattle.calls.specs.Call.{lent}
 use Rattle.calls.specs.Query.{queryRefusal, queryCall}
 use Rattle.calls.proofs.Checks.{none, pass, first-is, bounds-pass, test-ends}
 use Rattle.demands.specs.Ledger.{Given, opening, insertion, removal, card, Fed, Book, bookEntries, ruling, turnWith, turn, LedgerReply, ledger}
-use Rattle.demands.specs.Station.{Call, Station, changeOn, change, run, fedBy, fedAll}
-use Rattle.demands.specs.Demand3.{blank, Begins, standingGraph, Missed, Demand3Holds}
+use Rattle.demands.specs.Run.Station.{Call, Station, changeOn, change, run, fedBy, fedAll}
+use Rattle.demands.specs.Run.Demand3.{Demand3Holds}
+use Rattle.demands.specs.Terms.{blank, Begins, standingGraph, Missed}
 use Rattle.demands.proofs.Index.{Turned, struck-answer}
 use Rattle.demands.proofs.Steps.{recordOf, stationOf, Fine, Matches}
 use Rattle.demands.proofs.Changes.{insert-matches, remove-matches}
 use Rattle.demands.proofs.Openings.{open-begins, open-first, open-matches}
 use Rattle.demands.proofs.Cards.{read-begins, read-first, read-matches}
+use Rattle.demands.proofs.Right.{right}
 
 -- ---- one call after another
 
@@ -134,4 +136,5 @@ demand3 s first more begins e =
       edges = ap (λ (t : Station). t .edges) (a .station);
       index = ap (λ (t : Station). t .index) (a .station);
       needed = rw (a .station) (missed (a .fine));
+      right = rw (a .station) (right (standingGraph _) (a .fine .bounds) (length (s .index)));
     }

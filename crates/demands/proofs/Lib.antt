@@ -7,9 +7,9 @@ pub mod Openings
 pub mod CardReader
 pub mod Cards
 pub mod Demand1
-pub mod Demand3
 pub mod Reading
 pub mod Right
-pub mod Receiving
 pub mod Demand2
+pub mod Demand3
+pub mod Receiving
 pub mod Meaning

@@ -1,9 +1,9 @@
 -- The definitions that compute mean what document 01 says.
-use mathlib.Core.Path.{_≡_, sym, _∙_}
+use mathlib.Core.Path.{_≡_, refl, sym, _∙_}
 use mathlib.Core.Logic.{_↔_}
 use mathlib.Core.Bool.{Bool, true}
 use mathlib.Core.List.{List, [], _∷_}
-use Prim.Native.Nat.{ℕ}
+use Prim.Native.Nat.{ℕ, zero, suc}
 use native.Mathlib.Omega.{arith}
 use lib.Dec.{leb}
 use lib.ListN.{length}
@@ -26,8 +26,9 @@ use Rattle.model.proofs.Memories.{test-edge-memory, test-index-memory}
 use Rattle.calls.specs.Checks.{vertices?, longest?, ends?, Check}
 use Rattle.calls.specs.Call.{Header, graphOf, Memory}
 use Rattle.calls.specs.Search.{searchRefusal, searchCall}
-use Rattle.calls.proofs.Checks.{header-good, bounded, test-ends}
+use Rattle.calls.proofs.Checks.{bounded, test-ends}
 use Rattle.calls.proofs.Passing.{passing}
+use Rattle.demands.specs.Demand1.{searchNumber}
 use Rattle.demands.specs.Meaning.{Replies, GraphMeaning, Meaning}
 
 -- a test is true exactly if its statement holds
@@ -48,10 +49,10 @@ graph-meaning g b =
       codes = λ number below. exactly (test-code (g .longest) number (b .longest-most) below);
     }
 
-searches : (h : Header) (start destination : ℕ) (pattern : List ℕ) (limit : ℕ) (m : Memory) → searchRefusal h start destination pattern m ≡ 0
+accepted-searches : (h : Header) (start destination : ℕ) (pattern : List ℕ) (limit : ℕ) (m : Memory) → searchRefusal h start destination pattern m ≡ 0
     → Replies (graphOf h (standing (m .edges))) (minRepeat pattern) start destination limit (searchCall h start destination pattern limit m .reply)
 unfolding searchCall
-searches h start destination pattern limit m e =
+accepted-searches h start destination pattern limit m e =
     let (v, (k, (_, (_, (ends, (keyed, _)))))) = passing checks tt (unfold searchRefusal in e) in
     let b : Bounds (h .vertices) (h .longest) = bounded v k in
     let (hs, ht) = test-yields (test-ends (h .vertices) start destination) ends in
@@ -72,13 +73,24 @@ searches h start destination pattern limit m e =
         ∷ (11, keyed? (h .longest) pattern)
         ∷ []
 
+searches : (h : Header) (start destination : ℕ) (pattern : List ℕ) (limit : ℕ) (m : Memory) →
+    let r = searchCall h start destination pattern limit m .reply in
+    searchNumber r ≡ 0 → Replies (graphOf h (standing (m .edges))) (minRepeat pattern) start destination limit r
+unfolding searchCall
+searches h start destination pattern limit m e = go (searchRefusal h start destination pattern m) refl
+  where
+    go : (n : ℕ) → searchRefusal h start destination pattern m ≡ n
+        → Replies (graphOf h (standing (m .edges))) (minRepeat pattern) start destination limit (searchCall h start destination pattern limit m .reply)
+    go zero q = accepted-searches h start destination pattern limit m q
+    go (suc n) q = absurd (let z : suc n ≡ 0 = rw q at e in omega (arith, z))
+
 pub meaning : Meaning
 meaning =
     record {
       keyed = λ k l. exactly (test-keyed k l);
       repeat = λ l m h. (min-repeat-unique l m h, λ e. rw (sym e) (min-repeat l h));
       runs = λ g l s t. (runs-spells, λ (j, p). spells-runs j p);
-      graphs = λ g e. graph-meaning g (header-good (g .vertices) (g .longest) e);
+      graphs = graph-meaning;
       answers = λ vertices index l s t. exactly (test-answers vertices index l s t);
       level-zero = λ g l s z. (λ m. level-zero g l s z .0 m ∙ sym (state-zero s), λ e. level-zero g l s z .1 (e ∙ state-zero s));
       level-next = λ g l s i z. level-iff g l s i z;

@@ -17,13 +17,14 @@ use Rattle.model.specs.Computed.Entries.{determined}
 use Rattle.model.proofs.Tests.{test-yields, test-le}
 use Rattle.model.proofs.Entries.{entries-out}
 use Rattle.calls.specs.Checks.{Check, vertices?, longest?, firstRefusal}
-use Rattle.calls.specs.Call.{Header, lent, Outcome}
-use Rattle.calls.specs.Change.{Returned, openRefusal, openCall}
+use Rattle.calls.specs.Call.{Header, lent, Outcome, Returned}
+use Rattle.calls.specs.Change.{openRefusal, openCall}
 use Rattle.calls.proofs.Checks.{test-vertices, test-longest}
 use Rattle.calls.proofs.Settling.{Result, with-number}
 use Rattle.calls.proofs.Passing.{passing}
 use Rattle.demands.specs.Ledger.{Book, opening, rising, bookEntries, shows, openingNumber, turn}
-use Rattle.demands.specs.Station.{Call, Station, memoryOf, fedBy, replyTo}
+use Rattle.demands.specs.Terms.{replyTo}
+use Rattle.demands.specs.Run.Station.{Call, Station, memoryOf, fedBy}
 use Rattle.demands.proofs.Rising.{rising-out}
 use Rattle.demands.proofs.Numbers.{Gives, gives-none, chain, above-not, outside-not}
 use Rattle.demands.proofs.Steps.{stationOf, Fine, edge-slots, index-slots, Reaches, Matches, matches, begins, first-reply}

@@ -12,9 +12,9 @@ use Rattle.model.specs.Edges.{Bounds}
 use Rattle.model.specs.Computed.Edges.{edge?}
 use Rattle.model.proofs.Tests.{test-yields, test-le}
 use Rattle.calls.specs.Checks.{Check}
-use Rattle.calls.specs.Call.{Memory}
+use Rattle.calls.specs.Call.{Memory, noRecord}
 use Rattle.calls.specs.Change.{buildRoom?, fits?}
-use Rattle.calls.specs.Card.{headerOf, countOf, edgesOf, cardChecks, cardRefusal, readRefusal, noRecord, readCall}
+use Rattle.calls.specs.Card.{headerOf, countOf, edgesOf, cardChecks, cardRefusal, readRefusal, readCall}
 use Rattle.calls.proofs.Checks.{none, pass}
 use Rattle.calls.proofs.Card.{card-is, triples-good, card-good, card-vertices}
 use Rattle.calls.proofs.Settling.{settledChange, settled, accepted-zero}

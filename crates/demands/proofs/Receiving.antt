@@ -1,4 +1,4 @@
--- Demand 2 (d): a card is read as if a fresh layout had received its edges. By the ledger: the opening and each insertion are accepted, and in
+-- A card is read as if a fresh layout had received its edges. By the ledger: the opening and each insertion are accepted, and in
 -- the end it holds the card's edges.
 use mathlib.Core.Path.{_≡_, refl, sym, _∙_}
 use mathlib.Core.Logic.{⊎-elim}
@@ -18,9 +18,9 @@ use Rattle.model.proofs.Edges.{IsEdge, test-edge}
 use Rattle.model.proofs.Counting.{no-more, rising-same}
 use Rattle.calls.proofs.Card.{card-good}
 use Rattle.demands.specs.Ledger.{opening, insertion, card, Fed, Book, rising, bookEntries, when, outside, full, openingNumber, namedNumber, inserted, insertionNumber, cardBook, shows, LedgerReply, Turn, turn, Account, ledger}
-use Rattle.demands.specs.Station.{Call, Station, memoryOf, changeOn, after, fedBy}
-use Rattle.demands.specs.Demand3.{blank, by-opening, by-card}
-use Rattle.demands.specs.Demand2.{receiving, Suffices, Receives}
+use Rattle.demands.specs.Run.Station.{Call, Station, memoryOf, changeOn, after, fedBy}
+use Rattle.demands.specs.Terms.{blank, by-opening, by-card}
+use Rattle.demands.specs.Run.Receiving.{receiving, Suffices, ReceivingSame}
 use Rattle.demands.proofs.Rising.{edge-below, rising-rises, rising-in, rising-out}
 use Rattle.demands.proofs.Steps.{stationOf, Fine}
 use Rattle.demands.proofs.CardReader.{edges-agree}
@@ -174,9 +174,7 @@ module _ {slots room : ℕ} {b : Book} (fine : Fine slots room b) (rises : Risin
   station-same : {held : List ℕ} → Same held (b .edges) → stationOf slots room (holding held) ≡ stationOf slots room b
   station-same same = rw (same-rising (λ z k. k) same) refl
 
-pub receiving-same : (s : Station) (bytes : List ℕ) (small : Bytes bytes) (work : List ℕ) (works : ℕ → List ℕ)
-    → changeOn s work (card bytes small) .reply .answer ≡ 0 → Suffices (cardBook bytes) (length (s .index)) works
-    → Receives s (receiving (cardBook bytes) works) (after s (changeOn s work (card bytes small)))
+pub receiving-same : ReceivingSame
 receiving-same s bytes small work works e enough =
     let slots = length (s .edges) in
     let room = length (s .index) in

@@ -23,16 +23,14 @@ use Rattle.model.proofs.Patterns.{test-keyed}
 use Rattle.model.proofs.Insertion.{member-insert, member-left}
 use Rattle.model.proofs.Memory.{edge-least, standing-filled, standing-some, standing-zeroed}
 use Rattle.calls.specs.Checks.{vertices?, longest?, ends?, Check, firstRefusal}
-use Rattle.calls.specs.Call.{Header, graphOf, Memory, lent, Outcome}
+use Rattle.calls.specs.Call.{Header, graphOf, Memory, lent, Outcome, Returned}
 use Rattle.calls.specs.Query.{saying, queryRefusal, queryCall}
-use Rattle.calls.specs.Change.{Returned, changeChecks, changeRefusal, openRefusal, openCall, insertRefusal, insertCall, removeRefusal, removeCall}
+use Rattle.calls.specs.Change.{changeChecks, changeRefusal, openRefusal, openCall, insertRefusal, insertCall, removeRefusal, removeCall}
 use Rattle.calls.specs.Card.{headerOf, readCall}
 use Rattle.calls.proofs.Checks.{First, none, pass, stop, first-is, bounded, bounds-pass, test-ends}
 use Rattle.calls.proofs.Change.{ChangeGood, change-good, front-passes}
 use Rattle.calls.proofs.Settling.{settledChange, Result, settled, with-number, accepted-zero}
 use Rattle.calls.proofs.Passing.{passing}
-use Rattle.demands.specs.Ledger.{Given, opening, insertion, removal, card}
-use Rattle.demands.specs.Station.{Call, Station, memoryOf, changeOn, change}
 use Rattle.demands.specs.Demand2.{Right, RightAfter}
 use Rattle.demands.proofs.Index.{whole-passes, answer-right}
 use Rattle.demands.proofs.Openings.{no-entries, blank-filled}
@@ -120,7 +118,7 @@ accepted-right {h = h} {wanted = wanted} {m = m} n r e f =
     let (bounds, some) = f z in
     subst RightAfter (sym (r .accepted z)) (settled-right h wanted m bounds some)
 
-open-right : (h : Header) (m : Memory) → openCall h m .reply .answer ≡ 0 → RightAfter (openCall h m)
+pub open-right : (h : Header) (m : Memory) → openCall h m .reply .answer ≡ 0 → RightAfter (openCall h m)
 unfolding openCall openRefusal
 open-right h m e =
     let r = with-number (firstRefusal checks) h m done in
@@ -155,30 +153,20 @@ module _ (h : Header) (from label to : ℕ) (m : Memory) where
   unfolding changeRefusal
   begun later z = change-good h from label to m (front-passes (changeChecks h from label to m) later z)
 
-  insert-right : insertCall h from label to m .reply .answer ≡ 0 → RightAfter (insertCall h from label to m)
+  pub insert-right : insertCall h from label to m .reply .answer ≡ 0 → RightAfter (insertCall h from label to m)
   unfolding insertCall insertRefusal
   insert-right e =
       accepted-right _ (settled h h (insertEdge x (standing (m .edges))) m _ tt) e (λ z.
       let g = begun _ z in
       (g .header, λ y k. ⊎-elim (λ q. omega (arith, q, g .label-least)) (λ j. standing-some (m .edges) j) (member-insert x (standing (m .edges)) y .0 k)))
 
-  remove-right : removeCall h from label to m .reply .answer ≡ 0 → RightAfter (removeCall h from label to m)
+  pub remove-right : removeCall h from label to m .reply .answer ≡ 0 → RightAfter (removeCall h from label to m)
   unfolding removeCall removeRefusal
   remove-right e =
       accepted-right _ (settled h h (removeEdge x (standing (m .edges))) m _ tt) e (λ z.
       (begun _ z .header, λ y k. standing-some (m .edges) (member-left x (standing (m .edges)) k)))
 
-read-right : (bytes : List ℕ) → Bytes bytes → (m : Memory) → readCall bytes m .reply .answer ≡ 0 → RightAfter (readCall bytes m)
-read-right bytes small m e =
+pub read-right : (bytes : List ℕ) (m : Memory) → Bytes bytes → readCall bytes m .reply .answer ≡ 0 → RightAfter (readCall bytes m)
+read-right bytes m small e =
     let c = read-said bytes m small e in
     subst RightAfter (sym (c .is)) (settled-right _ _ m (c .bounds) (λ x k. omega (arith, edge-least (headerOf bytes .vertices) x (c .valid x k))))
-
--- each changing call, on any record and memory
-pub changes-right : (s : Station) (c : Call) → change s c .reply .answer ≡ 0 → RightAfter (change s c)
-changes-right s c e = on (c .given) e
-  where
-    on : (given : Given) → changeOn s (c .work) given .reply .answer ≡ 0 → RightAfter (changeOn s (c .work) given)
-    on (opening vertices longest) e = open-right (record { vertices = vertices; longest = longest }) (memoryOf s []) e
-    on (insertion from label to) e = insert-right (s .header) from label to (memoryOf s (c .work)) e
-    on (removal from label to) e = remove-right (s .header) from label to (memoryOf s (c .work)) e
-    on (card bytes small) e = read-right bytes small (memoryOf s (c .work)) e

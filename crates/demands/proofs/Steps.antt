@@ -8,11 +8,12 @@ use Rattle.model.specs.Limits.{mostEdges}
 use Rattle.model.specs.Lists.{filled}
 use Rattle.model.specs.Edges.{Bounds}
 use Rattle.model.proofs.Memory.{length-filled}
-use Rattle.calls.specs.Call.{Header, Memory, Outcome}
-use Rattle.calls.specs.Change.{Returned, refusedWith}
+use Rattle.calls.specs.Call.{Header, Memory, Outcome, Returned}
+use Rattle.calls.specs.Change.{refusedWith}
 use Rattle.calls.proofs.Settling.{Result}
 use Rattle.demands.specs.Ledger.{Given, opening, insertion, removal, card, Book, rising, bookEntries, Shown, shows, Turn, turnWith}
-use Rattle.demands.specs.Station.{Station, memoryOf, after, shownTo, replyTo}
+use Rattle.demands.specs.Terms.{shownTo, replyTo}
+use Rattle.demands.specs.Run.Station.{Station, memoryOf, after}
 use Rattle.demands.proofs.Rising.{EdgesOf}
 
 abbrev pub recordOf : Book → Header

@@ -7,11 +7,11 @@ use Prim.Native.Nat.{ℕ, _≤_}
 use lib.ListN.{drop}
 use Rattle.model.specs.Lists.{zeroed}
 use Rattle.model.specs.States.{Reply, Yes, No, Spent, Refused}
-use Rattle.calls.specs.Call.{Header, Memory, lent, cleared, Outcome}
+use Rattle.calls.specs.Call.{Header, Memory, lent, cleared, Outcome, Returned, Wrote, Length, Refused as NotWritten, noRecord}
 use Rattle.calls.specs.Search.{searchCall}
 use Rattle.calls.specs.Query.{queryCall}
-use Rattle.calls.specs.Change.{Returned, openCall, insertCall, removeCall}
-use Rattle.calls.specs.Card.{Wrote, Length, Refused as NotWritten, noRecord, readCall, writeCall}
+use Rattle.calls.specs.Change.{openCall, insertCall, removeCall}
+use Rattle.calls.specs.Card.{readCall, writeCall}
 
 -- a call that was lent that memory, and told that number: 0 if it was accepted
 pub record Keeps {R : Type 0} (m : Memory) (c : Outcome R) (number : ℕ) : Type 0 where

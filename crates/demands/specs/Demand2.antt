@@ -1,24 +1,21 @@
 -- Demand 2: replies are right on the record and index that the last accepted change left, and cards restore what they were written from.
 use mathlib.Core.Path.{_≡_}
 use mathlib.Core.Logic.{_⊎_}
-use mathlib.Core.List.{List, [], _∷_, _++_, map, List·Memᴰ}
+use mathlib.Core.List.{List, [], _++_}
 use Prim.Native.Nat.{ℕ, _+_, _≤_, _<_}
 use lib.ListN.{length, take, drop}
 use Rattle.model.specs.Limits.{mostEdges, leastWork}
-use Rattle.model.specs.Lists.{_∈_, filled, Bytes}
-use Rattle.model.specs.Edges.{Graph, fromOf, labelOf, toOf, standing}
+use Rattle.model.specs.Lists.{filled, Bytes}
+use Rattle.model.specs.Edges.{Graph, standing}
 use Rattle.model.specs.Patterns.{Keyed}
 use Rattle.model.specs.Walks.{Runs}
 use Rattle.model.specs.Query.{Yes, No, Refused}
 use Rattle.model.specs.Computed.Patterns.{minRepeat}
 use Rattle.model.specs.Computed.Entries.{determined}
-use Rattle.calls.specs.Call.{Header, graphOf, Memory, lent, Outcome}
+use Rattle.calls.specs.Call.{Header, graphOf, Memory, lent, Outcome, Returned, Length}
 use Rattle.calls.specs.Query.{queryCall}
-use Rattle.calls.specs.Change.{Returned}
-use Rattle.calls.specs.Card.{readCall, Length, writeCall}
-use Rattle.demands.specs.Ledger.{Book, opening, insertion, card, bookEntries, cardBook, ruling, LedgerReply, ledger}
-use Rattle.demands.specs.Station.{Call, Station, changeOn, change, after, run, fedBy, fedAll}
-use Rattle.demands.specs.Demand3.{blank, Begins, standingGraph}
+use Rattle.calls.specs.Change.{openCall, insertCall, removeCall}
+use Rattle.calls.specs.Card.{readCall, writeCall}
 
 -- (a) queries (questions) put with a record and an index memory, to the standing edges of a graph
 pub record Right (h : Header) (index : List ℕ) (g : Graph) : Type 0 where
@@ -50,29 +47,12 @@ pub record Roomy (m : Memory) (edges entries : ℕ) : Type 0 where
   pub index-slots : entries ≤ length (m .index)
   pub work : leastWork + length (m .index) ≤ length (m .work)
 
--- (d) the calls by which a fresh layout receives edges: an opening, and an insertion (lay) of each, with work memory of its own
-abbrev pub receiving : Book → (ℕ → List ℕ) → List Call
-receiving b works =
-    record { given = opening (b .vertices) (b .longest); work = [] }
-    ∷ map (λ x. record { given = insertion (fromOf x) (labelOf x) (toOf x); work = works x }) (b .edges)
-
--- index and work memory suffice at every step
-pub record Suffices (b : Book) (room : ℕ) (works : ℕ → List ℕ) : Type 0 where
-  pub index : (n : ℕ) → length (bookEntries (record { vertices = b .vertices; longest = b .longest; edges = take n (b .edges) })) ≤ room
-  pub work : (x : ℕ) → x ∈ b .edges → leastWork + room ≤ length (works x)
-
--- every call is accepted, and in the end record, edge and index memory are those
-pub record Receives (s : Station) (calls : List Call) (end : Station) : Type 0 where
-  pub accepted : (r : LedgerReply) → List·Memᴰ r (run s calls .replies) → r .number ≡ 0
-  pub same : run s calls .station ≡ end
-
 pub record Demand2 : Type 0 where
-  -- after each accepted change, whatever record and memory it was given
-  pub changes : (s : Station) (c : Call) → change s c .reply .answer ≡ 0 → RightAfter (change s c)
-  -- so after any list of calls as in demand 3, refused ones included
-  pub questions : (s : Station) (first : Call) (more : List Call) → Begins (first .given)
-      → ruling blank (fedBy (length (s .edges)) (length (s .index)) first) .number ≡ 0 →
-      let end = run s (first ∷ more) .station in Right (end .header) (end .index) (standingGraph (ledger blank (fedAll s (first ∷ more)) .book))
+  -- after each accepted change, whatever record and memory it was given. (So after any list of calls: `Accounted.right`, traces)
+  pub opens : (h : Header) (m : Memory) → openCall h m .reply .answer ≡ 0 → RightAfter (openCall h m)
+  pub inserts : (h : Header) (from label to : ℕ) (m : Memory) → insertCall h from label to m .reply .answer ≡ 0 → RightAfter (insertCall h from label to m)
+  pub removes : (h : Header) (from label to : ℕ) (m : Memory) → removeCall h from label to m .reply .answer ≡ 0 → RightAfter (removeCall h from label to m)
+  pub reads : (bytes : List ℕ) (m : Memory) → Bytes bytes → readCall bytes m .reply .answer ≡ 0 → RightAfter (readCall bytes m)
   -- a card that was written, read again
   pub reading : (h : Header) (w : Memory) (n : ℕ) (m : Memory) → writeCall h w .reply ≡ Length n
       → Roomy m (length (standing (w .edges))) (length (determined (graphOf h (standing (w .edges)))))
@@ -82,7 +62,3 @@ pub record Demand2 : Type 0 where
       let c = readCall bytes m in
       let w = writeCall (c .reply .header) (record { edges = c .memory .edges; index = []; work = []; output = output }) in
       (w .reply ≡ Length (length bytes)) × (w .memory .output ≡ bytes ++ drop (length bytes) output)
-  -- "Reading a card fills leg and index memory as if a fresh layout had received those legs"
-  pub receiving-same : (s : Station) (bytes : List ℕ) (small : Bytes bytes) (work : List ℕ) (works : ℕ → List ℕ) →
-      let c = changeOn s work (card bytes small) in
-      c .reply .answer ≡ 0 → Suffices (cardBook bytes) (length (s .index)) works → Receives s (receiving (cardBook bytes) works) (after s c)

@@ -1,6 +1,6 @@
 pub mod Ledger
-pub mod Station
-pub mod Demand3
+pub mod Terms
 pub mod Demand1
 pub mod Demand2
 pub mod Meaning
+pub mod Run

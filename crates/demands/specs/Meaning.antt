@@ -1,5 +1,5 @@
 -- Meaning: document 01's own words and the definitions that compute. The demands and contracts speak of the latter; here each is tied to the
--- sentence that it stands for, for every graph that checks 1 and 2 let pass.
+-- sentence that it stands for, for every graph of 1 to 256 vertices whose longest pattern is 1 to 4.
 use mathlib.Core.Path.{_≡_}
 use mathlib.Core.Logic.{_↔_}
 use mathlib.Core.Bool.{true}
@@ -8,7 +8,7 @@ use Prim.Native.Nat.{ℕ, suc, _≤_, _<_}
 use lib.ListN.{length}
 use Rattle.model.specs.Limits.{mostEdges, enoughLevels, hubUnit}
 use Rattle.model.specs.Lists.{_∈_, Sorted, Rising, Padded}
-use Rattle.model.specs.Edges.{Graph, OfEdge, standing}
+use Rattle.model.specs.Edges.{Graph, Bounds, OfEdge, standing}
 use Rattle.model.specs.Patterns.{times, Keyed, MinRepeat}
 use Rattle.model.specs.Walks.{Spells, Runs}
 use Rattle.model.specs.Order.{weight, Before, Names}
@@ -22,9 +22,9 @@ use Rattle.model.specs.Computed.Levels.{level}
 use Rattle.model.specs.Computed.Entries.{determined}
 use Rattle.model.specs.Computed.Query.{code?, indexMemory?, answers?}
 use Rattle.model.specs.Levels.{Reached, Told, Decides}
-use Rattle.calls.specs.Checks.{headerRefusal}
 use Rattle.calls.specs.Call.{Header, graphOf, Memory}
-use Rattle.calls.specs.Search.{searchRefusal, searchCall}
+use Rattle.calls.specs.Search.{searchCall}
+use Rattle.demands.specs.Demand1.{searchNumber}
 
 -- what an accepted plain check (level search) replies
 pub record Replies (g : Graph) (l : List ℕ) (s t limit : ℕ) (r : Reply) : Type 0 where
@@ -56,13 +56,14 @@ pub record Meaning : Type 0 where
   pub repeat : (l m : List ℕ) → 1 ≤ length l → MinRepeat l m ↔ (minRepeat l ≡ m)
   -- "It runs pattern L if its colours spell L one or more whole times."
   pub runs : (g : Graph) (l : List ℕ) (s t : ℕ) → Runs g l s t ↔ ((j : ℕ) × Spells g s (times (suc j) l) t)
-  -- every graph that checks 1 and 2 let pass
-  pub graphs : (g : Graph) → headerRefusal (g .vertices) (g .longest) ≡ 0 → GraphMeaning g
+  -- "1 to 256 places", "The longest pattern k is 1 to 4"
+  pub graphs : (g : Graph) → Bounds (g .vertices) (g .longest) → GraphMeaning g
   -- "yes if the out list of s has (t, L), or the in list of t has (s, L), or some hub stands with L in both"
   pub answers : (vertices : ℕ) (index l : List ℕ) (s t : ℕ) → (answers? vertices index l s t ≡ true) ↔ Answers vertices index l s t
   -- "level 0 is the pair (s, 0)"; "Level i+1 is every (place, colours of L used so far ..) that .. and that is in none of levels 1 to i"
   pub level-zero : (g : Graph) (l : List ℕ) (s z : ℕ) → (z ∈ level g l s 0) ↔ (z ≡ state s 0)
   pub level-next : (g : Graph) (l : List ℕ) (s i z : ℕ) → (z ∈ level g l s (suc i)) ↔ Reached g l s i z
-  -- the plain check, as the call replies
-  pub searches : (h : Header) (start destination : ℕ) (pattern : List ℕ) (limit : ℕ) (m : Memory) → searchRefusal h start destination pattern m ≡ 0
-      → Replies (graphOf h (standing (m .edges))) (minRepeat pattern) start destination limit (searchCall h start destination pattern limit m .reply)
+  -- a plain check that is not refused
+  pub searches : (h : Header) (start destination : ℕ) (pattern : List ℕ) (limit : ℕ) (m : Memory) →
+      let r = searchCall h start destination pattern limit m .reply in
+      searchNumber r ≡ 0 → Replies (graphOf h (standing (m .edges))) (minRepeat pattern) start destination limit r

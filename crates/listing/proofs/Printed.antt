@@ -10,8 +10,7 @@ use Rattle.model.specs.Replies.{numberOf}
 use Rattle.model.specs.declared.Refusal.{Refusal}
 use Rattle.model.specs.declared.Answer.the-variants.{Accepted, Refused}
 use Rattle.model.proofs.Replies.{number-some}
-use Rattle.calls.specs.Call.{lent, Outcome, Meets}
-use Rattle.calls.specs.Change.{Returned}
+use Rattle.calls.specs.Call.{lent, Outcome, Meets, Returned}
 use Rattle.calls.specs.Card.{readCall}
 use Rattle.store.specs.Store.{returned}
 use Rattle.store.specs.declared.Changed.{Changed}

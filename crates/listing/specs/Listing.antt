@@ -6,8 +6,7 @@ use lib.Dec.{eqb}
 use lib.ListN.{length, replicate}
 use Rattle.model.specs.Limits.{mostEdges, leastWork}
 use Rattle.model.specs.Edges.{standing}
-use Rattle.calls.specs.Call.{Memory, lent, Outcome}
-use Rattle.calls.specs.Change.{Returned}
+use Rattle.calls.specs.Call.{Memory, lent, Outcome, Returned}
 use Rattle.calls.specs.Card.{readCall}
 use Rattle.printing.specs.Lines.{listing, refusedLine}
 

@@ -13,8 +13,7 @@ use Rattle.model.specs.declared.Answer.the-variants.{Accepted, Refused}
 use Rattle.model.proofs.Tests.{test-true, test-false, test-eq, by-test}
 use Rattle.model.proofs.Patterns.{test-keyed, folded}
 use Rattle.model.proofs.Replies.{number-some}
-use Rattle.calls.specs.Call.{Memory, Outcome, Meets}
-use Rattle.calls.specs.Change.{Returned}
+use Rattle.calls.specs.Call.{Memory, Outcome, Meets, Returned}
 use Rattle.store.specs.Store.{returned}
 use Rattle.store.specs.declared.Changed.{Changed}
 use Rattle.rlc_c.specs.Interface.{headerIn, two?, otherRecord, wordsAfter, HandsBack, ChangesInC}

@@ -8,9 +8,7 @@ use lib.ListN.{length, getD}
 use Rattle.model.specs.Query.{Answered, Yes as AnsweredYes, No as AnsweredNo, Refused as AnsweredRefused}
 use Rattle.model.specs.States.{Reply, Yes, No, Spent, Refused}
 use Rattle.model.specs.Replies.{answerOf}
-use Rattle.calls.specs.Call.{Header, Memory, Outcome, Meets}
-use Rattle.calls.specs.Change.{Returned}
-use Rattle.calls.specs.Card.{Wrote, Length, Refused as NotWritten}
+use Rattle.calls.specs.Call.{Header, Memory, Outcome, Meets, Returned, Wrote, Length, Refused as NotWritten}
 use Rattle.store.specs.declared.Changed.{Changed}
 
 -- the record that the numbers lent hold

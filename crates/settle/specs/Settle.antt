@@ -11,9 +11,8 @@ use Rattle.model.specs.Replies.{answerOf}
 use Rattle.model.specs.Computed.Edges.{edge?}
 use Rattle.model.specs.declared.Answer.{Answer}
 use Rattle.edges.specs.Memory.{Narrow}
-use Rattle.calls.specs.Call.{Header, lent, Meets}
+use Rattle.calls.specs.Call.{Header, lent, Meets, noRecord}
 use Rattle.calls.specs.Change.{answers, settle}
-use Rattle.calls.specs.Card.{noRecord}
 use Rattle.rows.specs.Region.{savedNumbers}
 
 -- what edge memory held, as saved in work memory: as many numbers as it has slots

@@ -9,8 +9,8 @@ use Rattle.model.specs.Edges.{standing, Bounds}
 use Rattle.model.specs.Replies.{numberOf}
 use Rattle.model.specs.declared.Refusal.{Refusal}
 use Rattle.edges.proofs.Memory.{Scans}
-use Rattle.calls.specs.Call.{Header as Numbers, Memory, Meets}
-use Rattle.calls.specs.Card.{cardOf, writeRefusal, Length, Refused, writeCall}
+use Rattle.calls.specs.Call.{Header as Numbers, Memory, Meets, Length, Refused}
+use Rattle.calls.specs.Card.{cardOf, writeRefusal, writeCall}
 use Rattle.calls.proofs.Calls.{refused-meets, accepted-is}
 use Rattle.calls.proofs.Card.{Cardable, card-says}
 use Rattle.checks.proofs.LayoutChecks.{layout-header, layout-memory}

@@ -1,8 +1,6 @@
 -- What the calls of the store return, as the definitions tell it.
 use Rattle.model.specs.Replies.{numberOf, answerOf}
-use Rattle.calls.specs.Call.{Header as Numbers}
-use Rattle.calls.specs.Change.{Returned}
-use Rattle.calls.specs.Card.{Wrote, Length as WroteLength, Refused as WroteRefused}
+use Rattle.calls.specs.Call.{Header as Numbers, Returned, Wrote, Length as WroteLength, Refused as WroteRefused}
 use Rattle.store.specs.declared.Header.{Header}
 use Rattle.store.specs.declared.Changed.{Changed}
 use Rattle.store.specs.declared.Written.{Written}

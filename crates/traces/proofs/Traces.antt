@@ -15,11 +15,11 @@ use Rattle.store.specs.Store.{numbers, returned}
 use Rattle.store.specs.declared.Header.{Header}
 use Rattle.store.specs.declared.Changed.{Changed}
 use Rattle.demands.specs.Ledger.{Given, Fed, bookEntries, ruling, LedgerReply, Account, ledger}
-use Rattle.demands.specs.Station.{Call, Station, changeOn, change, headerAfter, after, replyTo, run, fedBy, fedAll}
-use Rattle.demands.specs.Demand3.{blank, standingGraph, Missed, Demand3}
+use Rattle.demands.specs.Terms.{replyTo, blank, standingGraph, Missed}
+use Rattle.demands.specs.Run.Station.{Call, Station, changeOn, change, headerAfter, after, run, fedBy, fedAll}
+use Rattle.demands.specs.Run.Demand3.{Demand3}
 use Rattle.demands.specs.Demand2.{Right}
 use Rattle.demands.proofs.Demand3.{first-number, demand3}
-use Rattle.demands.proofs.Demand2.{demand2}
 use Rattle.traces.specs.Traces.{Held, Step, opens, inserts, removes, reads, kept, heldAfter, Trace, done, next, endOf, repliesOf, feeds, fedOf, accountOf, Accounted, TraceHolds}
 
 -- ---- one call
@@ -89,19 +89,11 @@ account {held} trace = ledger blank (fedAll (asStation held) (callsOf trace))
 told : {held : Held} (trace : Trace held) → account trace ≡ accountOf trace
 told {held} trace = ap (ledger blank) (sym (ran trace .fed (length (held .edges)) (length (held .index))))
 
-accounted : {held : Held} (trace : Trace held) → Demand3 (asStation held) (callsOf trace)
-    → Right (run (asStation held) (callsOf trace) .station .header) (run (asStation held) (callsOf trace) .station .index) (standingGraph (account trace .book))
-    → Accounted trace (accountOf trace)
-accounted {held} trace d q = subst (λ (a : Account). Accounted trace a) (told trace) (subst (λ (a : Account). Right′ a → Accounted trace a) (d .is) whole q)
+accounted : {held : Held} (trace : Trace held) → Demand3 (asStation held) (callsOf trace) → Accounted trace (accountOf trace)
+accounted {held} trace d = subst (λ (a : Account). Accounted trace a) (d .is ∙ told trace) whole
   where
-    end : Station
-    end = run (asStation held) (callsOf trace) .station
-
-    Right′ : Account → Type 0
-    Right′ a = Right (end .header) (end .index) (standingGraph (a .book))
-
-    whole : Right′ (d .account) → Accounted trace (d .account)
-    whole q =
+    whole : Accounted trace (d .account)
+    whole =
         let t = ran trace in
         record {
           replies = t .replies ∙ d .replies;
@@ -110,7 +102,7 @@ accounted {held} trace d q = subst (λ (a : Account). Accounted trace a) (told t
           needed = λ f e m gone.
               subst (λ (s : Station). Missed (s .header) (d .account .book) (filled (length (held .index)) (keep f (bookEntries (d .account .book)))))
               (t .station) (d .needed f e m gone);
-          right = subst (λ (s : Station). Right (s .header) (s .index) (standingGraph (d .account .book))) (t .station) q;
+          right = subst (λ (s : Station). Right (s .header) (s .index) (standingGraph (d .account .book))) (t .station) (d .right);
         }
 
 pub trace-holds : TraceHolds
@@ -120,4 +112,4 @@ trace-holds held given work r edges index first more begins accepted =
     let same : answerOf (r .answer) ≡ change (asStation held) call .reply .answer = ap (λ (x : LedgerReply). x .number) (follows first .reply) in
     let e : ruling blank (fedBy (length (held .edges)) (length (held .index)) call) .number ≡ 0
     = ⊎-elim (λ a. sym (first-number (asStation held) call begins) ∙ sym same ∙ ap answerOf a) (λ n. n) accepted in
-    accounted (next first more) (demand3 (asStation held) call (callsOf more) begins e) (demand2 .questions (asStation held) call (callsOf more) begins e)
+    accounted (next first more) (demand3 (asStation held) call (callsOf more) begins e)

@@ -18,8 +18,7 @@ use Rattle.store.specs.Store.{numbers, returned}
 use Rattle.store.specs.declared.Header.{Header}
 use Rattle.store.specs.declared.Changed.{Changed}
 use Rattle.demands.specs.Ledger.{Given, opening, insertion, removal, card, Fed, rising, bookEntries, ruling, LedgerReply, Account, ledger}
-use Rattle.demands.specs.Station.{replyTo}
-use Rattle.demands.specs.Demand3.{blank, Begins, standingGraph, Missed}
+use Rattle.demands.specs.Terms.{replyTo, blank, Begins, standingGraph, Missed}
 use Rattle.demands.specs.Demand2.{Right}
 
 -- what a program keeps between two calls: the header of the last accepted one, and edge and index memory

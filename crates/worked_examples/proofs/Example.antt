@@ -15,8 +15,9 @@ use Rattle.calls.specs.Checks.{firstRefusal}
 use Rattle.calls.specs.Change.{settle, openRefusal, openCall, insertRefusal, insertCall}
 use Rattle.calls.specs.Card.{edgesOf, risingTriples?, cardEdges?, readRefusal, readCall}
 use Rattle.demands.specs.Ledger.{openingNumber, Account}
-use Rattle.demands.specs.Station.{run}
-use Rattle.demands.specs.Demand3.{by-opening, Demand3}
+use Rattle.demands.specs.Run.Station.{run}
+use Rattle.demands.specs.Run.Demand3.{Demand3}
+use Rattle.demands.specs.Terms.{by-opening}
 use Rattle.demands.proofs.Demand3.{demand3}
 use Rattle.worked_examples.specs.Trials.{A, slotsA, cardA}
 use Rattle.worked_examples.specs.Example.{garbage, calls, Example}

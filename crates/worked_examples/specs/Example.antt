@@ -5,8 +5,8 @@ use mathlib.Core.List.{List, [], _∷_}
 use lib.ListN.{replicate}
 use Rattle.model.specs.Lists.{Bytes}
 use Rattle.demands.specs.Ledger.{opening, insertion, card, shows, LedgerReply, ledger}
-use Rattle.demands.specs.Station.{Call, Station, run, fedAll}
-use Rattle.demands.specs.Demand3.{blank}
+use Rattle.demands.specs.Run.Station.{Call, Station, run, fedAll}
+use Rattle.demands.specs.Terms.{blank}
 use Rattle.worked_examples.specs.Trials.{A, slotsA, cardA}
 
 abbrev pub garbage : Station

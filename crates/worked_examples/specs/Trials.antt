@@ -12,10 +12,10 @@ use Rattle.model.specs.Computed.Lists.{same?}
 use Rattle.model.specs.Computed.Edges.{removeEdge}
 use Rattle.model.specs.Computed.Patterns.{minRepeat}
 use Rattle.model.specs.Computed.Entries.{determined}
-use Rattle.calls.specs.Call.{Header, Memory, lent, Outcome}
+use Rattle.calls.specs.Call.{Header, Memory, lent, Outcome, Returned}
 use Rattle.calls.specs.Search.{searchCall}
 use Rattle.calls.specs.Query.{queryCall}
-use Rattle.calls.specs.Change.{Returned, removeCall}
+use Rattle.calls.specs.Change.{removeCall}
 use Rattle.calls.specs.Card.{readCall}
 
 -- a layout as a call meets it: vertices, k and edge memory

@@ -8,9 +8,9 @@ use lib.ListN.{drop}
 use Rattle.model.specs.Limits.{headBytes}
 use Rattle.model.specs.Replies.{answerOf}
 use Rattle.model.specs.declared.Answer.the-variants.{Accepted, Refused}
-use Rattle.calls.specs.Call.{Header, Memory, lent, Meets}
+use Rattle.calls.specs.Call.{Header, Memory, lent, Meets, noRecord}
 use Rattle.calls.specs.Change.{answers, settle}
-use Rattle.calls.specs.Card.{edgesOf, noRecord}
+use Rattle.calls.specs.Card.{edgesOf}
 use Rattle.calls.proofs.Calls.{meets-as}
 use Rattle.changes.specs.Changes.{Reads}
 use Rattle.changes.proofs.Trying.{Wanted, Tried, save-room, settleable, settled}

@@ -2,10 +2,11 @@
 use mathlib.Core.List.{List, [], _∷_, map}
 use Prim.Native.Nat.{ℕ, zero, suc}
 use lib.ListN.{length}
-use Rattle.calls.specs.Call.{Header, Memory, lent, Outcome}
-use Rattle.calls.specs.Change.{Returned, openCall, insertCall, removeCall}
+use Rattle.calls.specs.Call.{Header, Memory, lent, Outcome, Returned}
+use Rattle.calls.specs.Change.{openCall, insertCall, removeCall}
 use Rattle.calls.specs.Card.{readCall}
-use Rattle.demands.specs.Ledger.{Given, opening, insertion, removal, card, Fed, Shown, shows, nothing, LedgerReply}
+use Rattle.demands.specs.Ledger.{Given, opening, insertion, removal, card, Fed, LedgerReply}
+use Rattle.demands.specs.Terms.{replyTo}
 
 -- a call: what it is given, and the work memory lent to it (an opening uses none)
 pub record Call : Type 0 where
@@ -39,20 +40,6 @@ headerAfter (suc n) last handed = last
 abbrev pub after : Station → Outcome Returned → Station
 after s c =
     record { header = headerAfter (c .reply .answer) (s .header) (c .reply .header); edges = c .memory .edges; index = c .memory .index }
-
--- the reply as the ledger would tell it: the record shown is the one handed back, except that a refused card shows none
-abbrev pub shownCard : ℕ → Header → Shown
-shownCard zero h = shows (h .vertices) (h .longest)
-shownCard (suc n) h = nothing
-
-abbrev pub shownTo : Given → Returned → Shown
-shownTo (opening vertices longest) r = shows (r .header .vertices) (r .header .longest)
-shownTo (insertion from label to) r = shows (r .header .vertices) (r .header .longest)
-shownTo (removal from label to) r = shows (r .header .vertices) (r .header .longest)
-shownTo (card bytes _) r = shownCard (r .answer) (r .header)
-
-abbrev pub replyTo : Given → Returned → LedgerReply
-replyTo given r = record { number = r .answer; shown = shownTo given r }
 
 pub record Run : Type 0 where
   pub replies : List LedgerReply
