@@ -1,31 +1,15 @@
--- Edge memory as it is filled from a card: the edges one by one, and zeros behind them.
-use mathlib.Core.Path.{_≡_, sym, ap, _∙_}
-use mathlib.Core.List.{List, _++_, append-nil}
-use Prim.Native.Nat.{ℕ, _+_, _-_, _*_, _<_}
-use native.Mathlib.Nat.{le-of-eq}
+-- Edge memory as it is filled from a card, edge by edge.
+use mathlib.Core.Path.{_≡_, sym, _∙_}
+use mathlib.Core.List.{List, _++_}
+use Prim.Native.Nat.{ℕ, _+_, _*_, _<_}
 use native.Mathlib.Omega.{arith}
-use lib.ListN.{length, getD, take, drop, set, replicate, length-drop, drop-of-length-le, List·getD-append}
-use lib.Seq.{take-at, drop-at, getD-drop}
+use lib.ListN.{length, getD, drop, set, length-drop, List·getD-append}
+use lib.Seq.{getD-drop}
 use Rattle.model.specs.Limits.{headBytes, tripleBytes}
-use Rattle.model.specs.Lists.{filled, zeroed}
-use Rattle.model.proofs.Lists.{part-all}
-use Rattle.edges.proofs.Mix.{Mixed, front-turn}
+use Rattle.memory.proofs.Mix.{Mixed, front-turn}
 use Rattle.calls.specs.Card.{edgeAt, edgesOf}
 use Rattle.calls.proofs.Card.{length-edges, getD-edges}
 use Rattle.card.specs.Card.{Fillable}
-
--- behind a part that reaches to the end there is nothing
-pub part-last : (cur part : List ℕ) (n : ℕ) → take n cur ++ (part ++ drop (length cur - n) (drop n cur)) ≡ take n cur ++ part
-part-last cur part n = rw (drop-of-length-le (drop n cur) (le-of-eq (length-drop n cur)), append-nil)
-
--- numbers at the front, and zeros behind them
-pub zeros-behind : (l s : List ℕ) (n : ℕ) {cur zeros : List ℕ} → length l ≡ n → cur ≡ l ++ drop (length l) s
-    → zeros ≡ zeroed (take (length cur - n) (drop n cur)) → take n cur ++ (zeros ++ drop (length cur - n) (drop n cur)) ≡ filled (length s) l
-zeros-behind l s n {cur} {zeros} e f z =
-    let front : take n cur ≡ l = ap (take n) f ∙ take-at l (drop (length l) s) n e in
-    let behind : drop n cur ≡ drop (length l) s = ap (drop n) f ∙ drop-at l (drop (length l) s) n e in
-    let size : length (take (length cur - n) (drop n cur)) ≡ length s - length l = ap length (part-all cur n ∙ behind) ∙ length-drop (length l) s in
-    part-last cur zeros n ∙ ap (λ (m : List ℕ). m ++ zeros) front ∙ ap (λ (m : List ℕ). l ++ m) (z ∙ ap (λ (k : ℕ). replicate k 0) size)
 
 module _ {card edges : List ℕ} {n : ℕ} (p : Fillable card n edges) where
   abbrev pub cardEdges : List ℕ

@@ -9,15 +9,14 @@ use Rattle.model.specs.Limits.{headBytes, tripleBytes}
 use Rattle.model.specs.Edges.{fromOf, labelOf, toOf}
 use Rattle.model.specs.Computed.Lists.{spread}
 use Rattle.model.proofs.Tests.{test-yields}
-use Rattle.model.proofs.Lists.{getD-in, part-all}
+use Rattle.model.proofs.Lists.{getD-in, part-all, part-last}
 use Rattle.model.proofs.Edges.{test-edge}
-use Rattle.edges.proofs.Mix.{Mixed, front-turn}
-use Rattle.edges.proofs.Copying.{save-start, save-end}
+use Rattle.memory.proofs.Mix.{Mixed, front-turn}
+use Rattle.memory.proofs.Copying.{copy-start, copy-end}
 use Rattle.calls.specs.Call.{Header}
 use Rattle.calls.specs.Card.{edgeBytes, cardOf}
 use Rattle.calls.proofs.Card.{length-bytes, getD-bytes}
 use Rattle.card.specs.Card.{headOf, Body, Writable}
-use Rattle.card.proofs.Filling.{part-last}
 
 abbrev pub bytes : List ℕ → List ℕ
 bytes edges = spread edgeBytes edges
@@ -31,7 +30,7 @@ module _ {edges out : List ℕ} (p : Body edges out) where
   bytes-room = omega (arith, length-bytes edges, p .room)
 
   pub body-start : Mixed (bytesOver edges out) out out 0
-  body-start = save-start (bytes edges) out bytes-room
+  body-start = copy-start (bytes edges) out bytes-room
 
   pub edge-narrow : (i : ℕ) → i < length edges → fromOf (getD edges i 0) < 256
   edge-narrow i h = p .narrow (getD edges i 0) (getD-in edges i h)
@@ -57,7 +56,7 @@ module _ {edges out : List ℕ} (p : Body edges out) where
 
     pub body-end : length edges ≤ i → cur ≡ bytes edges ++ drop (tripleBytes * length edges) out
     body-end h =
-        save-end (bytes edges) out bytes-room m (omega (arith, length-bytes edges, h))
+        copy-end (bytes edges) out bytes-room m (omega (arith, length-bytes edges, h))
         ∙ ap (λ (k : ℕ). bytes edges ++ drop k out) (length-bytes edges)
 
 module _ {h : Header} {edges output : List ℕ} (p : Writable h edges output) where

@@ -130,7 +130,7 @@ pub fn fill(card: &[u8], n: usize, edges: &mut [u32])
         edges[i] = edge_at(card, HEAD_BYTES + TRIPLE_BYTES * i);
         i += 1;
     }
-    edges::clear_edges(&mut edges[n..]);
+    memory::clear_u32(&mut edges[n..]);
 }
 
 // The mark first, then version, vertices less one, k and the edge count.

@@ -57,8 +57,8 @@ pub fn open(vertices: u32, longest: u32, edges: &mut [u32], index: &mut [u64]) -
     if MOST_EDGES < edges.len() {
         return Answer::Refused(Refusal::EdgeMemory);
     }
-    edges::clear_edges(edges);
-    edges::clear_work(index);
+    memory::clear_u32(edges);
+    memory::clear_u64(index);
     Answer::Accepted
 }
 

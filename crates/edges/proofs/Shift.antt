@@ -14,7 +14,7 @@ use Rattle.model.proofs.Insertion.{Placed, last, here, past, placed, placed-mos
 use Rattle.model.proofs.Memory.{length-filled}
 use Rattle.edges.specs.Memory.{Holds, Insertable, Removable}
 use Rattle.edges.proofs.Memory.{holds-within, length-insert, length-remove}
-use Rattle.edges.proofs.Mix.{Mixed, front-start, front-turn, front-end, back-start, back-turn, back-end}
+use Rattle.memory.proofs.Mix.{Mixed, front-start, front-turn, front-end, back-start, back-turn, back-end}
 
 -- a slot past the last number reads 0, and so do the zeros there
 filled-slot : (m : ℕ) (l : List ℕ) (i : ℕ) → getD (filled m l) i 0 ≡ getD l i 0

@@ -1,20 +1,15 @@
 -- Laws of first slots: what is below a key stays below a higher one, and the table as it is filled.
-use mathlib.Core.Path.{_≡_, refl, sym, _∙_}
+use mathlib.Core.Path.{_∙_}
 use mathlib.Core.List.{List}
-use Prim.Native.Nat.{ℕ, zero, suc, _+_, _*_, _≤_, _<_}
-use native.Mathlib.Numerals.{add-one}
+use Prim.Native.Nat.{ℕ, _+_, _*_, _≤_, _<_}
 use native.Mathlib.Omega.{arith}
 use native.Mathlib.Decide.{ℕ-discrete}
-use lib.Dec.{eqb}
-use lib.ListN.{length, getD, drop, set, replicate, length-set, length-replicate, getD-replicate}
+use lib.ListN.{length, getD, set, replicate, length-set, length-replicate, getD-replicate}
 use lib.Seq.{getD-set-same, getD-set-other}
 use borrow.Author.Count.{below-more}
-use borrow.Author.Tests.{eq-eqb, ne-eqb}
 use Rattle.model.specs.Limits.{mostVertices, fromUnit}
 use Rattle.model.specs.Lists.{Rising}
-use Rattle.model.specs.Computed.Edges.{zeros?}
 use Rattle.model.proofs.Lists.{rising-le}
-use Rattle.model.proofs.Zeros.{zeros-stop, zeros-more, zeros-end}
 use Rattle.edges.specs.Slots.{Under, Skipped, Starts}
 
 module _ {edges : List ℕ} {key n : ℕ} where
@@ -31,21 +26,6 @@ under-none edges key = record { most = omega arith; below = λ j h. absurd (omeg
 -- from the first such slot on, rising edges are at least key
 pub skipped-least : {edges : List ℕ} {key n : ℕ} → Rising edges → Skipped edges key n → (i : ℕ) → n ≤ i → i < length edges → key ≤ getD edges i 0
 skipped-least s k i h b = omega (arith, k .reached (omega arith), rising-le s _ i h b)
-
--- all are zero where no slot is at least 1
-zeros-past : (edges : List ℕ) (n : ℕ) → Under edges 1 n → zeros? (drop n edges) ≡ zeros? edges
-zeros-past edges zero u = refl
-zeros-past edges (suc n) u =
-    rw (← add-one n) (zeros-more edges n (u .most) (omega (arith, u .below n (omega arith))))
-    ∙ zeros-past edges n (record { most = omega (arith, u .most); below = λ j h. u .below j (omega arith) })
-
-pub skipped-zeros : {edges : List ℕ} {n : ℕ} → Skipped edges 1 n → eqb n (length edges) ≡ zeros? edges
-skipped-zeros {edges} {n} k = elim (ℕ-discrete n (length edges)) [
-  | yes e ↦ eq-eqb n (length edges) e ∙ sym (zeros-end edges n (omega arith)) ∙ zeros-past edges n (k .under)
-  | no d ↦
-      let h : n < length edges = omega (arith, k .under .most) in
-      ne-eqb n (length edges) d ∙ sym (zeros-stop edges n h (λ e. omega (arith, k .reached h))) ∙ zeros-past edges n (k .under)
-]
 
 -- the table where the slots of the vertices below v are written
 pub starts-none : (edges : List ℕ) → Starts edges (replicate mostVertices 0)

@@ -2,10 +2,10 @@
 use mathlib.Core.Path.{_≡_}
 use mathlib.Core.Bool.{cond}
 use mathlib.Core.List.{List}
-use Prim.Native.Nat.{ℕ, _<_, _^_}
+use Prim.Native.Nat.{ℕ, _<_}
 use lib.ListN.{length, getD}
 use lib.Dec.{ltb, eqb}
-use Rattle.model.specs.Lists.{_∈_, filled}
+use Rattle.model.specs.Lists.{filled}
 use Rattle.model.specs.Edges.{standing}
 use Rattle.model.specs.Computed.Lists.{lowerBound}
 use Rattle.model.specs.Computed.Edges.{edgeMemory?}
@@ -40,7 +40,3 @@ pub record Removable (xs : List ℕ) (n at x : ℕ) : Type 0 where
   pub place : at ≡ lowerBound x (standing xs)
   pub inside : at < n
   pub there : getD xs at 0 ≡ x
-
--- numbers that were saved from edge memory
-abbrev pub Narrow : List ℕ → Type 0
-Narrow xs = (x : ℕ) → x ∈ xs → x < 2 ^ 32

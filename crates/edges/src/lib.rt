@@ -1,18 +1,16 @@
-// Edge memory: the numbers of edges, check 3, lookup, insertion and removal, zeroing, and copies for a change that is tried.
+// Edge memory: the numbers of edges, check 3, lookup, the slot where a vertex's edges start, insertion and removal.
 use model::FROM_UNIT;
 use model::LABEL_UNIT;
 use model::MOST_EDGES;
 use model::MOST_VERTICES;
 ghost use mathlib.Core.Path.{_≡_};
-ghost use mathlib.Core.Bool.{Bool};
-ghost use mathlib.Core.List.{_++_};
 ghost use Prim.Native.Nat.{_/_, _≤_, _<_};
-ghost use lib.ListN.{length, take, drop};
+ghost use lib.ListN.{length, take};
 ghost use Rattle.model.specs.Limits.{mostVertices, fromUnit, labelUnit};
-ghost use Rattle.model.specs.Lists.{Rising, filled, zeroed};
+ghost use Rattle.model.specs.Lists.{Rising, filled};
 ghost use Rattle.model.specs.Edges.{edgeNumber, standing};
-ghost use Rattle.model.specs.Computed.Edges.{edge?, zeros?, insertEdge, removeEdge};
-ghost use Rattle.edges.specs.Memory.{scanOf, findOf, Insertable, Removable, Narrow};
+ghost use Rattle.model.specs.Computed.Edges.{edge?, insertEdge, removeEdge};
+ghost use Rattle.edges.specs.Memory.{scanOf, findOf, Insertable, Removable};
 ghost use Rattle.edges.specs.Slots.{Under, Skipped, Starts};
 
 // How many numbers the label's field of an edge number has room for.
@@ -55,12 +53,6 @@ pub fn is_edge(vertices: u32, x: u32) -> bool
     x % LABEL_UNIT < vertices
 }
 
-pub fn all_zero(s: &[u32]) -> bool
-    ensures { λ r. ⌜ r ≡ zeros? (now (s .entry)) ⌝ }
-{
-    skip(s, 0, 1) == s.len()
-}
-
 // Check 3, in one pass.
 pub fn scan(vertices: u32, edges: &[u32]) -> Scanned
     ensures { λ r. ⌜ r ≡ scanOf vertices (now (edges .entry)) ⌝ }
@@ -73,7 +65,7 @@ pub fn scan(vertices: u32, edges: &[u32]) -> Scanned
     while i < edges.len() {
         let x = edges[i];
         if x <= prev {
-            if all_zero(&edges[i..]) {
+            if memory::all_zero_u32(&edges[i..]) {
                 return Scanned::Edges(i);
             }
             return Scanned::Invalid;
@@ -165,47 +157,4 @@ pub fn remove(edges: &mut [u32], n: usize, at: usize, edge: u32)
         i += 1;
     }
     edges[i] = 0;
-}
-
-pub fn clear_edges(edges: &mut [u32])
-    ensures { λ _. ⌜ now (edges .exit) ≡ zeroed (now (edges .entry)) ⌝ }
-{
-    let mut i = 0;
-    while i < edges.len() {
-        edges[i] = 0;
-        i += 1;
-    }
-}
-
-pub fn clear_work(work: &mut [u64])
-    ensures { λ _. ⌜ now (work .exit) ≡ zeroed (now (work .entry)) ⌝ }
-{
-    let mut slot = 0;
-    while slot < work.len() {
-        work[slot] = 0;
-        slot += 1;
-    }
-}
-
-// Copies edge memory to the front of a saving place, and back.
-pub fn save(edges: &[u32], saved: &mut [u64])
-    requires { ⌜ length (now edges) ≤ length (now saved) ⌝ }
-    ensures { λ _. ⌜ now (saved .exit) ≡ now (edges .entry) ++ drop (length (now (edges .entry))) (now (saved .entry)) ⌝ }
-{
-    let mut i = 0;
-    while i < edges.len() {
-        saved[i] = edges[i] as u64;
-        i += 1;
-    }
-}
-
-pub fn restore(edges: &mut [u32], saved: &[u64])
-    requires { ⌜ (length (now edges) ≤ length (now saved)) × Narrow (take (length (now edges)) (now saved)) ⌝ }
-    ensures { λ _. ⌜ now (edges .exit) ≡ take (length (now (edges .entry))) (now (saved .entry)) ⌝ }
-{
-    let mut i = 0;
-    while i < edges.len() {
-        edges[i] = saved[i] as u32;
-        i += 1;
-    }
 }

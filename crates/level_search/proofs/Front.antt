@@ -2,15 +2,15 @@
 use mathlib.Core.Path.{_≡_, sym, ap, _∙_}
 use mathlib.Core.List.{List, _++_}
 use Prim.Native.Nat.{ℕ, _≤_}
-use native.Mathlib.Omega.{arith}
-use lib.ListN.{length, take, drop, replicate, length-append, length-drop, length-replicate}
-use lib.Seq.{length-take-le, take-at}
+use lib.ListN.{length, take, drop, replicate, length-replicate}
+use lib.Seq.{take-at, length-front}
 use Rattle.model.specs.Limits.{leastWork}
 use Rattle.model.specs.Lists.{zeroed}
+use Rattle.memory.proofs.Parts.{zeros-front, zeros-long}
 
 module _ (w front : List ℕ) (long : leastWork ≤ length w) (cleared : front ≡ zeroed (take leastWork w)) where
   zeros : front ≡ replicate leastWork 0
-  zeros = cleared ∙ ap (λ (n : ℕ). replicate n 0) (length-take-le leastWork w long)
+  zeros = zeros-front w leastWork long cleared
 
   size : length front ≡ leastWork
   size = ap length zeros ∙ length-replicate {A = ℕ} leastWork 0
@@ -27,12 +27,4 @@ module _ (w front : List ℕ) (long : leastWork ≤ length w) (cleared : front �
   -- what the levels leave, put back
   pub front-same : (after : List ℕ) → length after ≡ length (take leastWork (front ++ drop leastWork w))
       → length (after ++ drop leastWork (front ++ drop leastWork w)) ≡ length w
-  front-same after e = omega (
-    arith,
-    size,
-    front-length,
-    length-append after (drop leastWork (front ++ drop leastWork w)),
-    length-drop leastWork (front ++ drop leastWork w),
-    length-append front (drop leastWork w),
-    length-drop leastWork w,
-  )
+  front-same after e = length-front (front ++ drop leastWork w) after leastWork e ∙ zeros-long w leastWork long cleared

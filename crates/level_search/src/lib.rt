@@ -149,7 +149,7 @@ pub fn run(
     requires { ⌜ Searchable vertices (now edges) (now pattern) s t × (leastWork ≤ length (now work)) ⌝ }
     ensures { λ r. ⌜ Searches vertices (now (edges .entry)) (now (pattern .entry)) s t limit (now (work .entry)) r (now (work .exit)) ⌝ }
 {
-    edges::clear_work(&mut work[..LEAST_WORK]);
+    memory::clear_u64(&mut work[..LEAST_WORK]);
     let reply = levels(
         vertices,
         edges,
@@ -159,7 +159,7 @@ pub fn run(
         limit,
         &mut work[..LEAST_WORK],
     );
-    edges::clear_work(work);
+    memory::clear_u64(work);
     reply
 }
 

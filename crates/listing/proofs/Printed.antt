@@ -10,14 +10,14 @@ use Rattle.model.specs.Replies.{numberOf}
 use Rattle.model.specs.declared.Refusal.{Refusal}
 use Rattle.model.specs.declared.Answer.the-variants.{Accepted, Refused}
 use Rattle.model.proofs.Replies.{number-some}
-use Rattle.calls.specs.Call.{lent, Outcome, Meets, Returned}
+use Rattle.memory.proofs.Reading.{standing-front}
+use Rattle.calls.specs.Call.{lent, Outcome, Returned, Meets}
 use Rattle.calls.specs.Card.{readCall}
 use Rattle.store.specs.Store.{returned}
 use Rattle.store.specs.declared.Changed.{Changed}
 use Rattle.printing.specs.Puts.{Puts}
 use Rattle.printing.specs.Lines.{listing, refusedLine}
 use Rattle.listing.specs.Listing.{blank, text, printed}
-use Rattle.listing.proofs.Standing.{standing-front}
 
 module _ {c : Outcome Returned} {r : Changed} {edges index work : List ℕ} (m : Meets c (returned r) (lent edges index work)) where
   text-listing : r .answer ≡ Accepted

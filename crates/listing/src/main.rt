@@ -2,10 +2,8 @@
 use model::Answer;
 use model::LEAST_WORK;
 use model::MOST_EDGES;
-ghost use mathlib.Core.Path.{_≡_};
 ghost use Prim.Native.Nat.{_≤_};
 ghost use lib.ListN.{length};
-ghost use Rattle.model.specs.Edges.{standing};
 ghost use Rattle.printing.specs.Puts.{Puts};
 ghost use Rattle.listing.specs.Listing.{printed};
 
@@ -14,33 +12,6 @@ const SLOTS: usize = 1024;
 
 // A header line and a line for each slot.
 const ROOM: usize = 72 + 32 * SLOTS;
-
-// How many slots stand before the first zero.
-fn standing_edges(edges: &[u32]) -> usize
-    ensures { λ r. ⌜ r ≡ length (standing (now (edges .entry))) ⌝ }
-{
-    let mut i = 0;
-    while i < edges.len() {
-        if edges[i] == 0 {
-            return i;
-        }
-        i += 1;
-    }
-    i
-}
-
-fn standing_entries(index: &[u64]) -> usize
-    ensures { λ r. ⌜ r ≡ length (standing (now (index .entry))) ⌝ }
-{
-    let mut i = 0;
-    while i < index.len() {
-        if index[i] == 0 {
-            return i;
-        }
-        i += 1;
-    }
-    i
-}
 
 // Writes what is printed for the card. Returns where it ends.
 fn list(card: &[u8], out: &mut [u8]) -> usize
@@ -56,8 +27,8 @@ fn list(card: &[u8], out: &mut [u8]) -> usize
     match answer {
         Answer::Refused(refusal) => printing::put_refused(out, 0, store::refusal_number(refusal)),
         Answer::Accepted => {
-            let m = standing_edges(&edges);
-            let n = standing_entries(&index);
+            let m = memory::standing_u32(&edges);
+            let n = memory::standing_u64(&index);
             printing::put_listing(out, header.vertices, header.longest, m as u32, &index[..n])
         }
     }

@@ -45,7 +45,7 @@ module _ {A : Type 0} (found : ℕ → A) (invalid : A) where
       checked-next h l true q = rw (add-one, drop-cons s i 0, ne-eqb (getD s i 0) 0 (λ e. omega arith), lt-ltb prev (getD s i 0) l, q, suc-add, add-suc)
       checked-next h l false q = rw (drop-cons s i 0, ne-eqb (getD s i 0) 0 (λ e. omega arith), lt-ltb prev (getD s i 0) l, q)
 
-  -- b is what `all_zero(&s[i..])` returns
+  -- b is what a test of `&s[i..]` for zeros returns
   pub checked-zeros : (s : List ℕ) (i : ℕ) (b : Bool) → zeros? (take (length s - i) (drop i s)) ≡ b
       → cond (zeros? (drop i s)) (found i) invalid ≡ cond b (found i) invalid
   checked-zeros s i b q = ap (λ (t : Bool). cond t (found i) invalid) (ap zeros? (sym (part-all s i)) ∙ q)

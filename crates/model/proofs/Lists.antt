@@ -2,13 +2,13 @@
 use mathlib.Core.Path.{_≡_, refl, sym, ap, _∙_}
 use mathlib.Core.Logic.{_⊎_, inl, inr, ⊎-elim, _≢_}
 use mathlib.Core.Bool.{Bool, true, false, not}
-use mathlib.Core.List.{List, [], _∷_, _++_, List·Memᴰ, List·Memᴰ·head, List·Memᴰ·tail, List·Memᴰ·cases-cons, List·Memᴰ·not-nil, List·Memᴰ·append-cases, Memᴰ·append-left, Memᴰ·append-right, Memᴰ·of-map, map}
+use mathlib.Core.List.{List, [], _∷_, _++_, append-nil, List·Memᴰ, List·Memᴰ·head, List·Memᴰ·tail, List·Memᴰ·cases-cons, List·Memᴰ·not-nil, List·Memᴰ·append-cases, Memᴰ·append-left, Memᴰ·append-right, Memᴰ·of-map, map}
 use Prim.Native.Nat.{ℕ, zero, suc, _+_, _-_, _≤_, _<_}
 use native.Mathlib.Nat.{eq-or-lt-of-le, le-of-suc-le-suc, not-suc-le-zero, le-of-eq}
 use native.Mathlib.Decide.{ℕ-discrete}
 use native.Mathlib.Omega.{arith}
 use lib.Dec.{T}
-use lib.ListN.{length, getD, set, take, drop, length-drop}
+use lib.ListN.{length, getD, set, take, drop, length-drop, drop-of-length-le}
 use lib.Seq.{getD-set-same, getD-set-other, take-all}
 use Rattle.model.specs.Lists.{put, keep, from, upTo, Sorted, none, next, Rising}
 use Rattle.model.specs.Computed.Lists.{spread}
@@ -168,6 +168,9 @@ below-none = record { at = λ j h. absurd (not-suc-le-zero h) }
 pub below-more : {P : ℕ → Type 0} {i : ℕ} → Below P i → P i → Below P (i + 1)
 below-more {P} {i} b p = record { at = λ j h. elim (ℕ-discrete i j) [ yes e ↦ rw e at p | no n ↦ b .at j (omega arith) ] }
 
--- the part `&l[i..]` is all that is behind i
+-- the part `&l[i..]` is all that is behind i, and nothing is behind it
 pub part-all : (l : List ℕ) (i : ℕ) → take (length l - i) (drop i l) ≡ drop i l
 part-all l i = take-all (length l - i) (drop i l) (le-of-eq (length-drop i l))
+
+pub part-last : (l part : List ℕ) (i : ℕ) → take i l ++ (part ++ drop (length l - i) (drop i l)) ≡ take i l ++ part
+part-last l part i = rw (drop-of-length-le (drop i l) (le-of-eq (length-drop i l)), append-nil)

@@ -1,15 +1,14 @@
--- Zeros behind what stands in memory: the test slot by slot, and what it says; numbers that rise, then zeros.
+-- Zeros behind what stands in memory: what the test for them says; numbers that rise, then zeros.
 use mathlib.Core.Path.{_≡_, refl, ap, _∙_}
 use mathlib.Core.Logic.{⊎-elim}
 use mathlib.Core.Bool.{Bool, true, false}
 use mathlib.Core.List.{List, [], _∷_, _++_, List·Memᴰ·head, List·Memᴰ·tail, List·Memᴰ·cases-cons, List·Memᴰ·not-nil}
-use Prim.Native.Nat.{ℕ, zero, suc, _+_, _-_, _≤_, _<_}
-use native.Mathlib.Numerals.{add-one}
+use Prim.Native.Nat.{ℕ, zero, suc, _-_, _≤_, _<_}
 use native.Mathlib.Decide.{ℕ-discrete}
 use native.Mathlib.Omega.{arith}
 use lib.Dec.{T, eqb}
-use lib.ListN.{length, getD, take, drop, replicate, drop-of-length-le, length-append, length-replicate}
-use lib.Seq.{drop-cons, take-append-seam}
+use lib.ListN.{length, take, replicate, length-append, length-replicate}
+use lib.Seq.{take-append-seam}
 use borrow.Author.Tests.{eq-eqb, ne-eqb}
 use Rattle.model.specs.Lists.{_∈_, none, next, Rising, filled, zeroed}
 use Rattle.model.specs.Edges.{standing}
@@ -32,20 +31,6 @@ zeros-out (x ∷ xs) h = let (a, b) = (test-and (test-eq x 0) (test-T (zeros? xs
 pub zero-in : (m : ℕ) {x : ℕ} → x ∈ replicate m 0 → x ≡ 0
 zero-in zero h = absurd (List·Memᴰ·not-nil h)
 zero-in (suc m) h = ⊎-elim (λ e. e) (λ k. zero-in m k) (List·Memᴰ·cases-cons h)
-
--- the slots from i on
-module _ (s : List ℕ) (i : ℕ) where
-  pub zeros-stop : i < length s → (getD s i 0 ≡ 0 → ⊥) → zeros? (drop i s) ≡ false
-  unfolding zeros?
-  zeros-stop h n = rw (drop-cons s i 0, ne-eqb (getD s i 0) 0 n)
-
-  pub zeros-more : i < length s → getD s i 0 ≡ 0 → zeros? (drop (i + 1) s) ≡ zeros? (drop i s)
-  unfolding zeros?
-  zeros-more h e = rw (add-one, drop-cons s i 0, eq-eqb (getD s i 0) 0 e)
-
-  pub zeros-end : length s ≤ i → zeros? (drop i s) ≡ true
-  unfolding zeros?
-  zeros-end h = rw (drop-of-length-le s h)
 
 -- ---- numbers with zeros behind them
 

@@ -13,7 +13,7 @@ use Rattle.model.specs.Build.Renumber.{translate}
 use Rattle.model.proofs.Lists.{getD-in, getD-map}
 use Rattle.model.proofs.Ranks.{rank-at, names-length}
 use Rattle.model.proofs.Renumber.{entry-fields}
-use Rattle.edges.proofs.Mix.{Mixed, front-none, front-turn}
+use Rattle.memory.proofs.Mix.{Mixed, front-none, front-turn}
 use Rattle.sort.specs.Order.{narrowBits, Distinct, FiveBytes}
 use Rattle.output.specs.Output.{Translatable}
 

@@ -45,5 +45,5 @@ pub fn write(order: &[u8], staged: &mut [u64], index: &mut [u64])
     put_back(order, staged);
     let n = staged.len();
     sort::sort(staged, &mut index[..n]);
-    edges::clear_work(&mut index[n..]);
+    memory::clear_u64(&mut index[n..]);
 }

@@ -7,11 +7,12 @@ use native.Mathlib.Numerals.{add-one}
 use native.Mathlib.Omega.{arith}
 use borrow.Author.Tests.{lt-ltb, le-ltb}
 use lib.Dec.{ltb}
-use lib.ListN.{length, take, drop, getD, set, length-append, length-drop, take-append-drop, drop-of-length-le}
+use lib.ListN.{length, take, drop, getD, set, length-append, take-append-drop}
 use lib.Seq.{length-take-le, take-length, take-all, take-at, drop-at, drop-drop, set-split, take-suc}
 use Rattle.model.specs.Limits.{sideUnit}
 use Rattle.model.specs.Computed.Lists.{spread}
 use Rattle.model.specs.Computed.Query.{ownerOf, hubOf, codeOf}
+use Rattle.model.proofs.Lists.{part-all, part-last}
 use Rattle.printing.specs.Puts.{Puts}
 use Rattle.printing.specs.Lines.{digits, number, labels, space, newline, outWord, inWord, sideLine, entryLine, placesWord, longestWord, legsWord, entriesWord, headerLine, refusedWord, refusedLine, listing}
 
@@ -31,23 +32,10 @@ puts-byte out at x h = record { end = refl; bytes = set-split out at x h ∙ (rw
 pub puts-copied : (out text part : List ℕ) (at r : ℕ) → at + length text ≤ length out → r ≡ length text
     → part ≡ take (length text) text ++ drop (length text) (take (length out - at) (drop at out))
     → Puts out at text (take at out ++ (part ++ drop (length out - at) (drop at out))) (at + r)
-puts-copied out text part at r fits e p = record { end = omega arith; bytes = ap (λ (l : List ℕ). take at out ++ l) inner }
+puts-copied out text part at r fits e p = record { end = omega arith; bytes = part-last out part at ∙ ap (λ (l : List ℕ). take at out ++ l) part-is }
   where
-    room : length (drop at out) ≤ length out - at
-    room = omega (arith, length-drop at out)
-
-    part-is : part ≡ text ++ drop (length text) (drop at out)
-    part-is = p ∙ ap (λ (l : List ℕ). l ++ drop (length text) (take (length out - at) (drop at out))) (take-length text) ∙ ap (λ (l : List ℕ). text ++ drop (length text) l) (take-all (length out - at) (drop at out) room)
-
-    behind : drop (length text) (drop at out) ≡ drop (at + r) out
-    behind = drop-drop (length text) at out ∙ ap (λ (n : ℕ). drop (at + n) out) (sym e)
-
-    inner : part ++ drop (length out - at) (drop at out) ≡ text ++ drop (at + r) out
-    inner =
-        ap (λ (l : List ℕ). part ++ l) (drop-of-length-le (drop at out) room)
-        ∙ append-nil part
-        ∙ part-is
-        ∙ ap (λ (l : List ℕ). text ++ l) behind
+    part-is : part ≡ text ++ drop (at + r) out
+    part-is = p ∙ rw (take-length text, part-all out at, e, drop-drop (length text) at out)
 
 -- text after text
 pub puts-then : {out s out₁ t out₂ : List ℕ} {at a b : ℕ} → at ≤ length out → Puts out at s out₁ a → Puts out₁ a t out₂ b → Puts out at (s ++ t) out₂ b

@@ -11,7 +11,6 @@ ghost use mathlib.Core.Bool.{not};
 ghost use Prim.Native.Nat.{_≤_, _<_};
 ghost use lib.ListN.{length};
 ghost use Rattle.model.specs.Limits.{codeDigits, hubUnit};
-ghost use Rattle.model.specs.Computed.Edges.{zeros?};
 ghost use Rattle.model.specs.Computed.Patterns.{keyed?, own?};
 ghost use Rattle.model.specs.Computed.Query.{digits, code?};
 ghost use Rattle.scan.specs.Memory.{scanOf};
@@ -146,20 +145,6 @@ fn field_end(vertices: u32) -> u64
     FIELD
 }
 
-// Whether every slot is zero.
-fn all_zero(s: &[u64]) -> bool
-    ensures { λ r. ⌜ r ≡ zeros? (now (s .entry)) ⌝ }
-{
-    let mut i = 0;
-    while i < s.len() {
-        if s[i] != 0 {
-            return false;
-        }
-        i += 1;
-    }
-    true
-}
-
 // Why check 12 leaves its fast loop. As each way out leads elsewhere, the compiler keeps the tests apart, which is faster than one of all.
 enum Exit {
     // from this slot on nothing rises
@@ -216,7 +201,7 @@ pub fn scan(vertices: u32, longest: u32, index: &[u64]) -> Extent
         match exit {
             Exit::Stray => return Extent::Invalid,
             Exit::Rest(at) => {
-                if all_zero(&index[at..]) {
+                if memory::all_zero_u64(&index[at..]) {
                     return Extent::Entries(at);
                 }
                 return Extent::Invalid;

@@ -14,7 +14,7 @@ use Rattle.model.specs.declared.Answer.the-variants.{Accepted, Refused}
 use Rattle.model.specs.declared.Refusal.the-variants.{IndexSlots}
 use Rattle.model.proofs.Tests.{test-lt, test-yields, test-fails}
 use Rattle.model.proofs.Lists.{part-all}
-use Rattle.edges.specs.Memory.{Narrow}
+use Rattle.memory.specs.Widths.{Narrow}
 use Rattle.calls.specs.Call.{Header, graphOf, Memory, lent, noRecord}
 use Rattle.calls.proofs.Change.{settle-fits, settle-short}
 use Rattle.rows.specs.Region.{savedNumbers}

@@ -10,8 +10,8 @@ use Rattle.model.specs.Edges.{Bounds}
 use Rattle.model.specs.Replies.{answerOf}
 use Rattle.model.specs.Computed.Edges.{edge?}
 use Rattle.model.specs.declared.Answer.{Answer}
-use Rattle.edges.specs.Memory.{Narrow}
-use Rattle.calls.specs.Call.{Header, lent, Meets, noRecord}
+use Rattle.memory.specs.Widths.{Narrow}
+use Rattle.calls.specs.Call.{Header, lent, noRecord, Meets}
 use Rattle.calls.specs.Change.{answers, settle}
 use Rattle.rows.specs.Region.{savedNumbers}
 

@@ -16,7 +16,7 @@ pub fn save(edges: &[u32], work: &mut [u64])
     requires { ⌜ savedNumbers + length (now edges) ≤ length (now work) ⌝ }
     ensures { λ _. ⌜ Saves (now (edges .entry)) (now (work .entry)) (now (work .exit)) ⌝ }
 {
-    edges::save(edges, &mut work[SAVED..]);
+    memory::widen(edges, &mut work[SAVED..]);
 }
 
 // Builds the index that the edges determine, in the access order counted. Work memory holds anything afterwards, except that the numbers in
@@ -57,11 +57,11 @@ pub fn settle(
     let built = index_edges(vertices, longest, &edges[..n], index, work);
     let answer = match built {
         Built::TooMany => {
-            edges::restore(edges, &work[SAVED..]);
+            memory::narrow(edges, &work[SAVED..]);
             Answer::Refused(Refusal::IndexSlots)
         }
         Built::Entries(_) => Answer::Accepted,
     };
-    edges::clear_work(work);
+    memory::clear_u64(work);
     answer
 }

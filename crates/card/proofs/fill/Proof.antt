@@ -4,10 +4,11 @@ use Prim.Native.Nat.{_-_, _≤_}
 use native.Mathlib.Omega.{arith}
 use lib.ListN.{length, drop}
 use Rattle.model.specs.Limits.{headBytes}
-use Rattle.edges.proofs.Mix.{Mixed}
-use Rattle.edges.proofs.Copying.{save-start, save-end}
+use Rattle.memory.proofs.Mix.{Mixed}
+use Rattle.memory.proofs.Copying.{copy-start, copy-end}
+use Rattle.memory.proofs.Parts.{zeros-behind}
 use Rattle.calls.specs.Card.{edgesOf}
-use Rattle.card.proofs.Filling.{cardEdges, card-edges-size, fill-turn, zeros-behind}
+use Rattle.card.proofs.Filling.{cardEdges, card-edges-size, fill-turn}
 use borrow.Author.Needs.{needs}
 use Rattle.card.proofs.fill.Statement.{statement}
 use Rattle.card.proofs.fill.Tie as tie
@@ -21,7 +22,7 @@ abbrev μ-loop : tie.MeasureT-loop
 loop-holds : tie.Need-loop-holds Inv-loop μ-loop
 loop-holds c =
     let p = c .before .before .pre in
-    save-start (cardEdges p) (c .before .before .args .edges .now) (omega (arith, card-edges-size p, p .room))
+    copy-start (cardEdges p) (c .before .before .args .edges .now) (omega (arith, card-edges-size p, p .room))
 
 mul-edge-at : tie.Need-mul-edge-at Inv-loop μ-loop
 mul-edge-at c = search needs
@@ -49,20 +50,20 @@ loop-again c =
     let at = c .before .before in
     fill-turn (at .before .before .before .pre) (at .loop .inv) (omega (arith, c .before .loop-test .taken)) (c .edge-at .ensures)
 
-mul-clear-edges : tie.Need-mul-clear-edges Inv-loop μ-loop
-mul-clear-edges c = search needs
+mul-clear-u32 : tie.Need-mul-clear-u32 Inv-loop μ-loop
+mul-clear-u32 c = search needs
 
-sub-clear-edges : tie.Need-sub-clear-edges Inv-loop μ-loop
-sub-clear-edges c = search needs
+sub-clear-u32 : tie.Need-sub-clear-u32 Inv-loop μ-loop
+sub-clear-u32 c = search needs
 
-part-clear-edges-start : tie.Need-part-clear-edges-start Inv-loop μ-loop
-part-clear-edges-start c = search needs
+part-clear-u32-start : tie.Need-part-clear-u32-start Inv-loop μ-loop
+part-clear-u32-start c = search needs
 
-part-clear-edges-end : tie.Need-part-clear-edges-end Inv-loop μ-loop
-part-clear-edges-end c = search needs
+part-clear-u32-end : tie.Need-part-clear-u32-end Inv-loop μ-loop
+part-clear-u32-end c = search needs
 
-clear-edges-requires : tie.Need-clear-edges-requires Inv-loop μ-loop
-clear-edges-requires c κs = search needs
+clear-u32-requires : tie.Need-clear-u32-requires Inv-loop μ-loop
+clear-u32-requires c κs = search needs
 
 same-length : tie.Need-same-length Inv-loop μ-loop
 same-length c = search needs
@@ -74,8 +75,8 @@ returns c =
     let p = start .pre in
     let room : length (cardEdges p) ≤ length (start .args .edges .now) = omega (arith, card-edges-size p, p .room) in
     let past : length (cardEdges p) ≤ done .before .loop .i = omega (arith, card-edges-size p, done .loop-test .left) in
-    let all = save-end (cardEdges p) (start .args .edges .now) room (done .before .loop .inv) past in
-    zeros-behind (cardEdges p) (start .args .edges .now) (start .args .n) (card-edges-size p) all (c .before .before .clear-edges .ensures)
+    let all = copy-end (cardEdges p) (start .args .edges .now) room (done .before .loop .inv) past in
+    zeros-behind (cardEdges p) (start .args .edges .now) (start .args .n) (card-edges-size p) (rw (card-edges-size p) at all) (c .before .before .clear-u32 .ensures)
 
 pub fill-spec : {M : Type 1} → statement M
 fill-spec =
@@ -92,10 +93,10 @@ fill-spec =
     add-i
     loop-less
     loop-again
-    mul-clear-edges
-    sub-clear-edges
-    part-clear-edges-start
-    part-clear-edges-end
-    clear-edges-requires
+    mul-clear-u32
+    sub-clear-u32
+    part-clear-u32-start
+    part-clear-u32-end
+    clear-u32-requires
     same-length
     returns)

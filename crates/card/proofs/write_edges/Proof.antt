@@ -3,7 +3,7 @@ use Prim.Native.Nat.{_-_, _*_}
 use native.Mathlib.Omega.{arith}
 use lib.ListN.{length, length-set}
 use Rattle.model.specs.Limits.{tripleBytes}
-use Rattle.edges.proofs.Mix.{Mixed}
+use Rattle.memory.proofs.Mix.{Mixed}
 use Rattle.card.proofs.Writing.{bytesOver, body-start, edge-narrow, body-turn, body-end}
 use borrow.Author.Needs.{needs}
 use Rattle.card.proofs.write_edges.Statement.{statement}

@@ -35,11 +35,11 @@ returns-2 : tie.Need-returns-2
 unfolding openRefusal
 returns-2 c = open-stops _ _ EdgeMemory (first-is (header-pass _ _ (header (c .before)) (stop (lt-leb _ _ (c .if1 .taken)))))
 
-clear-edges-requires : tie.Need-clear-edges-requires
-clear-edges-requires c κs = search needs
+clear-u32-requires : tie.Need-clear-u32-requires
+clear-u32-requires c κs = search needs
 
-clear-work-requires : tie.Need-clear-work-requires
-clear-work-requires c κs = search needs
+clear-u64-requires : tie.Need-clear-u64-requires
+clear-u64-requires c κs = search needs
 
 same-length : tie.Need-same-length
 same-length c = search needs
@@ -52,7 +52,7 @@ unfolding openRefusal
 returns-3 c =
     let few = c .before .before .before .before .before .before .before .before in
     open-leaves _ _ (first-is (header-pass _ _ (header (few .before)) (pass (le-leb _ _ (few .if1 .left)) none)))
-    (c .before .before .before .before .before .before .clear-edges .ensures) (c .before .before .clear-work .ensures) refl refl
+    (c .before .before .before .before .before .before .clear-u32 .ensures) (c .before .before .clear-u64 .ensures) refl refl
 
 pub open-spec : {M : Type 1} → statement M
 open-spec =
@@ -63,8 +63,8 @@ open-spec =
     returns
     enum-told
     returns-2
-    clear-edges-requires
-    clear-work-requires
+    clear-u32-requires
+    clear-u64-requires
     same-length
     same-length-2
     returns-3)

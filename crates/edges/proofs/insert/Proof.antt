@@ -3,7 +3,7 @@ use Prim.Native.Nat.{_+_, _≤_}
 use native.Mathlib.Omega.{arith}
 use borrow.Author.Needs.{needs}
 use lib.ListN.{length-set}
-use Rattle.edges.proofs.Mix.{Mixed}
+use Rattle.memory.proofs.Mix.{Mixed}
 use Rattle.edges.proofs.Shift.{inserted, insert-most, insert-start, insert-turn, insert-end}
 use Rattle.edges.proofs.insert.Statement.{statement}
 use Rattle.edges.proofs.insert.Tie as tie

@@ -4,7 +4,7 @@ use native.Mathlib.Omega.{arith}
 use borrow.Author.Needs.{needs}
 use lib.ListN.{length, length-set}
 use Rattle.edges.proofs.Memory.{holds-within}
-use Rattle.edges.proofs.Mix.{Mixed}
+use Rattle.memory.proofs.Mix.{Mixed}
 use Rattle.edges.proofs.Shift.{without, remove-start, remove-turn, remove-end}
 use Rattle.edges.proofs.remove.Statement.{statement}
 use Rattle.edges.proofs.remove.Tie as tie

@@ -32,20 +32,20 @@ mul-x c = search needs
 shared-slice-read-x : tie.Need-shared-slice-read-x Inv-loop μ-loop
 shared-slice-read-x c = search needs
 
-mul-all-zero : tie.Need-mul-all-zero Inv-loop μ-loop
-mul-all-zero c = search needs
+mul-all-zero-u32 : tie.Need-mul-all-zero-u32 Inv-loop μ-loop
+mul-all-zero-u32 c = search needs
 
-sub-all-zero : tie.Need-sub-all-zero Inv-loop μ-loop
-sub-all-zero c = search needs
+sub-all-zero-u32 : tie.Need-sub-all-zero-u32 Inv-loop μ-loop
+sub-all-zero-u32 c = search needs
 
-part-all-zero-start : tie.Need-part-all-zero-start Inv-loop μ-loop
-part-all-zero-start c = search needs
+part-all-zero-u32-start : tie.Need-part-all-zero-u32-start Inv-loop μ-loop
+part-all-zero-u32-start c = search needs
 
-part-all-zero-end : tie.Need-part-all-zero-end Inv-loop μ-loop
-part-all-zero-end c = search needs
+part-all-zero-u32-end : tie.Need-part-all-zero-u32-end Inv-loop μ-loop
+part-all-zero-u32-end c = search needs
 
-all-zero-requires : tie.Need-all-zero-requires Inv-loop μ-loop
-all-zero-requires c κs = search needs
+all-zero-u32-requires : tie.Need-all-zero-u32-requires Inv-loop μ-loop
+all-zero-u32-requires c κs = search needs
 
 -- slot i is read
 module _ (at : tie.After-shared-slice-known2 Inv-loop μ-loop) where
@@ -61,7 +61,7 @@ module _ (at : tie.After-shared-slice-known2 Inv-loop μ-loop) where
   abbrev edges : List ℕ
   edges = at .before .before .before .before .before .args .edges .now
 
-  -- it does not rise: the reply is what `all_zero` says of it and the slots behind it
+  -- it does not rise: the reply is what `all_zero_u32` says of it and the slots behind it
   rest : (b : Bool) → getD edges i 0 ≤ prev → zeros? (take (length edges - i) (drop i edges)) ≡ b → cond b (Edges i) Invalid ≡ scanOf vertices edges
   rest b l e =
       sym (checked-zeros Edges Invalid edges i b e)
@@ -74,10 +74,10 @@ module _ (at : tie.After-shared-slice-known2 Inv-loop μ-loop) where
       sym (checked-next Edges Invalid (edge? vertices) prev edges i (at .before .loop-test .taken) l b e) ∙ at .before .before .loop .inv .1
 
 returns-2 : tie.Need-returns-2 Inv-loop μ-loop
-returns-2 c = rest (c .before .before .before .before) true (omega (arith, c .before .before .before .if2 .taken)) (sym (c .before .all-zero .ensures) ∙ c .if3 .taken)
+returns-2 c = rest (c .before .before .before .before) true (omega (arith, c .before .before .before .if2 .taken)) (sym (c .before .all-zero-u32 .ensures) ∙ c .if3 .taken)
 
 returns-3 : tie.Need-returns-3 Inv-loop μ-loop
-returns-3 c = rest (c .before .before .before .before) false (omega (arith, c .before .before .before .if2 .taken)) (sym (c .before .all-zero .ensures) ∙ c .if3 .left)
+returns-3 c = rest (c .before .before .before .before) false (omega (arith, c .before .before .before .if2 .taken)) (sym (c .before .all-zero-u32 .ensures) ∙ c .if3 .left)
 
 is-edge-requires : tie.Need-is-edge-requires Inv-loop μ-loop
 is-edge-requires c κs = search needs
@@ -110,11 +110,11 @@ scan-spec =
     loop-holds
     mul-x
     shared-slice-read-x
-    mul-all-zero
-    sub-all-zero
-    part-all-zero-start
-    part-all-zero-end
-    all-zero-requires
+    mul-all-zero-u32
+    sub-all-zero-u32
+    part-all-zero-u32-start
+    part-all-zero-u32-end
+    all-zero-u32-requires
     returns-2
     returns-3
     is-edge-requires

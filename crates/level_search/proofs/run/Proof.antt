@@ -10,29 +10,29 @@ use borrow.Author.Needs.{needs}
 use Rattle.level_search.proofs.run.Statement.{statement}
 use Rattle.level_search.proofs.run.Tie as tie
 
-slice-relend-prefix-clear-work : tie.Need-slice-relend-prefix-clear-work
-slice-relend-prefix-clear-work c = search needs
+slice-relend-prefix-clear-u64 : tie.Need-slice-relend-prefix-clear-u64
+slice-relend-prefix-clear-u64 c = search needs
 
-slice-aggregate-clear-work : tie.Need-slice-aggregate-clear-work
-slice-aggregate-clear-work c = sym (length-take-le leastWork (c .before .before .before .before .args .work .now) (c .before .before .before .before .pre .1))
+slice-aggregate-clear-u64 : tie.Need-slice-aggregate-clear-u64
+slice-aggregate-clear-u64 c = sym (length-take-le leastWork (c .before .before .before .before .args .work .now) (c .before .before .before .before .pre .1))
 
-clear-work-requires : tie.Need-clear-work-requires
-clear-work-requires c κs = search needs
+clear-u64-requires : tie.Need-clear-u64-requires
+clear-u64-requires c κs = search needs
 
 slice-relend-prefix-levels : tie.Need-slice-relend-prefix-levels
 slice-relend-prefix-levels c = search needs
 
 slice-aggregate-levels : tie.Need-slice-aggregate-levels
-slice-aggregate-levels c = sym (front-length (c .before .before .before .before .before .before .before .before .args .work .now) _ (c .before .before .before .before .before .before .before .before .pre .1) (c .before .before .before .clear-work .ensures))
+slice-aggregate-levels c = sym (front-length (c .before .before .before .before .before .before .before .before .args .work .now) _ (c .before .before .before .before .before .before .before .before .pre .1) (c .before .before .before .clear-u64 .ensures))
 
 levels-requires : tie.Need-levels-requires
 levels-requires c κs =
     let start = c .before .before .before .before .before .before .before .before in
-    let cleared = c .before .before .before .clear-work .ensures in
+    let cleared = c .before .before .before .clear-u64 .ensures in
     (start .pre .0, (le-of-eq (sym (front-length (start .args .work .now) _ (start .pre .1) cleared)), front-zero (start .args .work .now) _ (start .pre .1) cleared))
 
-clear-work-requires-2 : tie.Need-clear-work-requires-2
-clear-work-requires-2 c κs = search needs
+clear-u64-requires-2 : tie.Need-clear-u64-requires-2
+clear-u64-requires-2 c κs = search needs
 
 same-length : tie.Need-same-length
 same-length c = search needs
@@ -44,21 +44,21 @@ returns c =
       work-after =
           let start = c .before .before .before .before .before .before .before .before .before .before .before .before .before .before .before in
           let levels = c .before .before .before .before .before .before .levels in
-          c .before .before .clear-work2 .ensures
+          c .before .before .clear-u642 .ensures
           ∙ ap (λ (n : ℕ). replicate n 0)
-          (front-same (start .args .work .now) _ (start .pre .1) (c .before .before .before .before .before .before .before .before .before .before .clear-work .ensures) (levels .last .1 .1 .1 .1 .1 .1 .0) (levels .kept .1 .1 .1 .1 .1 .1 .0));
+          (front-same (start .args .work .now) _ (start .pre .1) (c .before .before .before .before .before .before .before .before .before .before .clear-u64 .ensures) (levels .last .1 .1 .1 .1 .1 .1 .0) (levels .kept .1 .1 .1 .1 .1 .1 .0));
     }
 
 pub run-spec : {M : Type 1} → statement M
 run-spec =
     tie.close
     (tie.spec
-    slice-relend-prefix-clear-work
-    slice-aggregate-clear-work
-    clear-work-requires
+    slice-relend-prefix-clear-u64
+    slice-aggregate-clear-u64
+    clear-u64-requires
     slice-relend-prefix-levels
     slice-aggregate-levels
     levels-requires
-    clear-work-requires-2
+    clear-u64-requires-2
     same-length
     returns)

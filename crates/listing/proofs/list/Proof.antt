@@ -5,13 +5,13 @@ use native.Mathlib.Omega.{arith}
 use borrow.Author.Needs.{needs}
 use lib.ListN.{length}
 use lib.Seq.{length-take-le}
-use Rattle.listing.proofs.Standing.{standing-within}
+use Rattle.memory.proofs.Reading.{standing-within}
 use Rattle.listing.proofs.Printed.{puts-listing, puts-refused}
 use Rattle.listing.proofs.list.Statement.{statement}
 use Rattle.listing.proofs.list.Tie as tie
 
 -- the card reading, from the arm of an accepted card and from that of a refused one
-abbrev read : tie.After-standing-edges → tie.After-read-card
+abbrev read : tie.After-standing-u32 → tie.After-read-card
 read c = c .before .before .before .before .before .before .before .before
 
 abbrev refused : tie.After-answer → tie.After-read-card
@@ -21,17 +21,17 @@ abbrev start : tie.After-read-card → tie.Start
 start c = c .before .before .before .before .before .before
 
 -- no more edges stand than slots, and no more entries
-few : (c : tie.After-standing-entries) → (c .before .before .standing-edges .result ≤ 1024) × (c .standing-entries .result ≤ 1024)
+few : (c : tie.After-standing-u64) → (c .before .before .standing-u32 .result ≤ 1024) × (c .standing-u64 .result ≤ 1024)
 few c =
     let edges = c .before .before in
     let card = read edges .read-card in (
-      omega (arith, edges .standing-edges .ensures, standing-within (card .last .1 .0), card .kept .1 .0),
-      omega (arith, c .standing-entries .ensures, standing-within (card .last .1 .1 .0), card .kept .1 .1 .0),
+      omega (arith, edges .standing-u32 .ensures, standing-within (card .last .1 .0), card .kept .1 .0),
+      omega (arith, c .standing-u64 .ensures, standing-within (card .last .1 .1 .0), card .kept .1 .1 .0),
     )
 
 -- the entries lie within index memory
-within : (c : tie.After-standing-entries) → c .standing-entries .result ≤ length (read (c .before .before) .read-card .last .1 .1 .0)
-within c = omega (arith, c .standing-entries .ensures, standing-within (read (c .before .before) .read-card .last .1 .1 .0))
+within : (c : tie.After-standing-u64) → c .standing-u64 .result ≤ length (read (c .before .before) .read-card .last .1 .1 .0)
+within c = omega (arith, c .standing-u64 .ensures, standing-within (read (c .before .before) .read-card .last .1 .1 .0))
 
 slice-aggregate-read-card : tie.Need-slice-aggregate-read-card
 slice-aggregate-read-card c = search needs
@@ -57,17 +57,17 @@ put-refused-requires c κs = search needs
 enum-told : tie.Need-enum-told
 enum-told c = search needs
 
-slice-aggregate-standing-edges : tie.Need-slice-aggregate-standing-edges
-slice-aggregate-standing-edges c = search needs
+slice-aggregate-standing-u32 : tie.Need-slice-aggregate-standing-u32
+slice-aggregate-standing-u32 c = search needs
 
-standing-edges-requires : tie.Need-standing-edges-requires
-standing-edges-requires c κs = search needs
+standing-u32-requires : tie.Need-standing-u32-requires
+standing-u32-requires c κs = search needs
 
-slice-aggregate-standing-entries : tie.Need-slice-aggregate-standing-entries
-slice-aggregate-standing-entries c = search needs
+slice-aggregate-standing-u64 : tie.Need-slice-aggregate-standing-u64
+slice-aggregate-standing-u64 c = search needs
 
-standing-entries-requires : tie.Need-standing-entries-requires
-standing-entries-requires c κs = search needs
+standing-u64-requires : tie.Need-standing-u64-requires
+standing-u64-requires c κs = search needs
 
 cast-put-listing : tie.Need-cast-put-listing
 cast-put-listing c = omega (arith, few (c .before))
@@ -82,7 +82,7 @@ put-listing-requires : tie.Need-put-listing-requires
 put-listing-requires c κs =
     let entries = c .before .before in
     let card = read (entries .before .before) in
-    let n = length-take-le (entries .standing-entries .result) (card .read-card .last .1 .1 .0) (within entries) in
+    let n = length-take-le (entries .standing-u64 .result) (card .read-card .last .1 .1 .0) (within entries) in
     (omega (arith, n, few entries), omega (arith, n, few entries, start card .pre))
 
 same-length : tie.Need-same-length
@@ -103,7 +103,7 @@ returns-2 c =
     let entries = put .before .before .before in
     let edges = entries .before .before in
     let told = edges .before .before in
-    puts-listing _ (read edges .read-card .ensures) (told .enum-told .given .1) (edges .standing-edges .ensures) (entries .standing-entries .ensures) (put .put-listing .ensures)
+    puts-listing _ (read edges .read-card .ensures) (told .enum-told .given .1) (edges .standing-u32 .ensures) (entries .standing-u64 .ensures) (put .put-listing .ensures)
 
 pub list-spec : {M : Type 1} → statement M
 list-spec =
@@ -117,10 +117,10 @@ list-spec =
     refusal-number-requires
     put-refused-requires
     enum-told
-    slice-aggregate-standing-edges
-    standing-edges-requires
-    slice-aggregate-standing-entries
-    standing-entries-requires
+    slice-aggregate-standing-u32
+    standing-u32-requires
+    slice-aggregate-standing-u64
+    standing-u64-requires
     cast-put-listing
     array-share-prefix-index
     slice-aggregate-put-listing

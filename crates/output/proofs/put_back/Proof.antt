@@ -4,7 +4,7 @@ use Prim.Native.Nat.{_-_}
 use borrow.Author.Needs.{needs}
 use lib.ListN.{length}
 use Rattle.model.specs.Build.Renumber.{translate}
-use Rattle.edges.proofs.Mix.{Mixed, front-full}
+use Rattle.memory.proofs.Mix.{Mixed, front-full}
 use Rattle.output.proofs.Putting.{map-start, map-turn, waits}
 use Rattle.output.proofs.put_back.Statement.{statement}
 use Rattle.output.proofs.put_back.Tie as tie

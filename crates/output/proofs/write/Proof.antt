@@ -32,20 +32,20 @@ sort-requires c κs =
     let e = sym (back .put-back .ensures) in
     (sym (front back), (subst Distinct e (start back .pre .distinct), subst FiveBytes e (start back .pre .narrow)))
 
-mul-clear-work : tie.Need-mul-clear-work
-mul-clear-work c = search needs
+mul-clear-u64 : tie.Need-mul-clear-u64
+mul-clear-u64 c = search needs
 
-sub-clear-work : tie.Need-sub-clear-work
-sub-clear-work c = search needs
+sub-clear-u64 : tie.Need-sub-clear-u64
+sub-clear-u64 c = search needs
 
-part-clear-work-start : tie.Need-part-clear-work-start
-part-clear-work-start c = search needs
+part-clear-u64-start : tie.Need-part-clear-u64-start
+part-clear-u64-start c = search needs
 
-part-clear-work-end : tie.Need-part-clear-work-end
-part-clear-work-end c = search needs
+part-clear-u64-end : tie.Need-part-clear-u64-end
+part-clear-u64-end c = search needs
 
-clear-work-requires : tie.Need-clear-work-requires
-clear-work-requires c κs = search needs
+clear-u64-requires : tie.Need-clear-u64-requires
+clear-u64-requires c κs = search needs
 
 same-length : tie.Need-same-length
 same-length c = search needs
@@ -57,7 +57,7 @@ returns : tie.Need-returns
 returns c =
     let sorted = c .before .before .before .before .before .before .before .before in
     let back = sorted .before .before .before .before .before in
-    written-as (back .put-back .ensures) (written (back .put-back .last .1 .0) (start back .args .index .now) (sorted .sort .ensures) (c .before .before .clear-work .ensures))
+    written-as (back .put-back .ensures) (written (back .put-back .last .1 .0) (start back .args .index .now) (sorted .sort .ensures) (c .before .before .clear-u64 .ensures))
 
 pub write-spec : {M : Type 1} → statement M
 write-spec =
@@ -67,11 +67,11 @@ write-spec =
     slice-relend-prefix-sort
     slice-aggregate-sort
     sort-requires
-    mul-clear-work
-    sub-clear-work
-    part-clear-work-start
-    part-clear-work-end
-    clear-work-requires
+    mul-clear-u64
+    sub-clear-u64
+    part-clear-u64-start
+    part-clear-u64-end
+    clear-u64-requires
     same-length
     same-length-2
     returns)

@@ -90,26 +90,26 @@ returns c = sym (skimmed (c .before .before) (c .enum-told .given .1))
 enum-known-exit : tie.Need-enum-known-exit Inv-loop μ-loop
 enum-known-exit c = search needs
 
-mul-all-zero : tie.Need-mul-all-zero Inv-loop μ-loop
-mul-all-zero c = let h = rest-slot (c .before) in search needs
+mul-all-zero-u64 : tie.Need-mul-all-zero-u64 Inv-loop μ-loop
+mul-all-zero-u64 c = let h = rest-slot (c .before) in search needs
 
-sub-all-zero : tie.Need-sub-all-zero Inv-loop μ-loop
-sub-all-zero c = let h = rest-slot (c .before) in search needs
+sub-all-zero-u64 : tie.Need-sub-all-zero-u64 Inv-loop μ-loop
+sub-all-zero-u64 c = let h = rest-slot (c .before) in search needs
 
-part-all-zero-start : tie.Need-part-all-zero-start Inv-loop μ-loop
-part-all-zero-start c = let h = rest-slot (c .before) in search needs
+part-all-zero-u64-start : tie.Need-part-all-zero-u64-start Inv-loop μ-loop
+part-all-zero-u64-start c = let h = rest-slot (c .before) in search needs
 
-part-all-zero-end : tie.Need-part-all-zero-end Inv-loop μ-loop
-part-all-zero-end c = let h = rest-slot (c .before) in search needs
+part-all-zero-u64-end : tie.Need-part-all-zero-u64-end Inv-loop μ-loop
+part-all-zero-u64-end c = let h = rest-slot (c .before) in search needs
 
-all-zero-requires : tie.Need-all-zero-requires Inv-loop μ-loop
-all-zero-requires c κs = search needs
+all-zero-u64-requires : tie.Need-all-zero-u64-requires Inv-loop μ-loop
+all-zero-u64-requires c κs = search needs
 
 returns-2 : tie.Need-returns-2 Inv-loop μ-loop
-returns-2 c = rest (c .before .before .before .before) true (sym (c .before .all-zero .ensures) ∙ c .if1 .taken)
+returns-2 c = rest (c .before .before .before .before) true (sym (c .before .all-zero-u64 .ensures) ∙ c .if1 .taken)
 
 returns-3 : tie.Need-returns-3 Inv-loop μ-loop
-returns-3 c = rest (c .before .before .before .before) false (sym (c .before .all-zero .ensures) ∙ c .if1 .left)
+returns-3 c = rest (c .before .before .before .before) false (sym (c .before .all-zero-u64 .ensures) ∙ c .if1 .left)
 
 enum-known-exit-2 : tie.Need-enum-known-exit-2 Inv-loop μ-loop
 enum-known-exit-2 c = search needs
@@ -171,11 +171,11 @@ scan-spec =
     enum-told
     returns
     enum-known-exit
-    mul-all-zero
-    sub-all-zero
-    part-all-zero-start
-    part-all-zero-end
-    all-zero-requires
+    mul-all-zero-u64
+    sub-all-zero-u64
+    part-all-zero-u64-start
+    part-all-zero-u64-end
+    all-zero-u64-requires
     returns-2
     returns-3
     enum-known-exit-2

@@ -10,31 +10,31 @@ use Rattle.settle.proofs.Saving.{saved-there}
 use Rattle.settle.proofs.save.Statement.{statement}
 use Rattle.settle.proofs.save.Tie as tie
 
-sub-save : tie.Need-sub-save
-sub-save c = search needs
+sub-widen : tie.Need-sub-widen
+sub-widen c = search needs
 
-part-save-start : tie.Need-part-save-start
-part-save-start c = search needs
+part-widen-start : tie.Need-part-widen-start
+part-widen-start c = search needs
 
-part-save-end : tie.Need-part-save-end
-part-save-end c = search needs
+part-widen-end : tie.Need-part-widen-end
+part-widen-end c = search needs
 
-save-requires : tie.Need-save-requires
-save-requires c κs = search needs
+widen-requires : tie.Need-widen-requires
+widen-requires c κs = search needs
 
 same-length : tie.Need-same-length
 same-length c = search needs
 
 returns : tie.Need-returns
 returns c =
-    let save = c .before .before .save in
+    let copy = c .before .before .widen in
     let start = c .before .before .before .before .before .before in
     let work = start .args .work .now in
     record {
-      saved = saved-there (start .args .edges .now) work (save .last .1 .0) _ _ (omega (arith, start .pre)) (save .ensures);
+      saved = saved-there (start .args .edges .now) work (copy .last .1 .0) _ _ (omega (arith, start .pre)) (copy .ensures);
       narrow = λ x k. let z = in-getD k in omega (arith, c .before .before .before .before .before .shared-slice-known .given (z .i), z .is);
-      work-long = same-len-mid savedNumbers (length work - savedNumbers) work (save .last .1 .0) (save .kept .1 .0);
+      work-long = same-len-mid savedNumbers (length work - savedNumbers) work (copy .last .1 .0) (copy .kept .1 .0);
     }
 
 pub save-spec : {M : Type 1} → statement M
-save-spec = tie.close (tie.spec sub-save part-save-start part-save-end save-requires same-length returns)
+save-spec = tie.close (tie.spec sub-widen part-widen-start part-widen-end widen-requires same-length returns)

@@ -18,17 +18,17 @@ index-edges-requires c κs = indexable (c .before .before .before .before .befor
 enum-told : tie.Need-enum-told
 enum-told c = search needs
 
-sub-restore : tie.Need-sub-restore
-sub-restore c = search needs
+sub-narrow : tie.Need-sub-narrow
+sub-narrow c = search needs
 
-part-restore-start : tie.Need-part-restore-start
-part-restore-start c = search needs
+part-narrow-start : tie.Need-part-narrow-start
+part-narrow-start c = search needs
 
-part-restore-end : tie.Need-part-restore-end
-part-restore-end c = search needs
+part-narrow-end : tie.Need-part-narrow-end
+part-narrow-end c = search needs
 
-restore-requires : tie.Need-restore-requires
-restore-requires c κs =
+narrow-requires : tie.Need-narrow-requires
+narrow-requires c κs =
     let built = c .before .before .before .before .before .before .before .before .before in
     let start = built .before .before .before .before .before .before .before in
     let saved = built .index-edges .ensures .saved in
@@ -37,8 +37,8 @@ restore-requires c κs =
 enum-told-2 : tie.Need-enum-told-2
 enum-told-2 c = search needs
 
-clear-work-requires : tie.Need-clear-work-requires
-clear-work-requires c κs = search needs
+clear-u64-requires : tie.Need-clear-u64-requires
+clear-u64-requires c κs = search needs
 
 same-length : tie.Need-same-length
 same-length c =
@@ -61,8 +61,8 @@ returns c =
     let start = built .before .before .before .before .before .before .before in
     let indexed = built .index-edges .ensures in
     ⊎-elim
-    (λ x. rw (x .8, x .9) (settles-short (start .pre) (cleared (indexed .saved) (zero .clear-work .ensures)) (rw (x .1 .given .1) at indexed) (x .5 .ensures)))
-    (λ x. rw (x .2, x .3) (settles-fits (start .pre) (cleared (indexed .saved) (zero .clear-work .ensures)) (rw (x .1 .given .1) at indexed)))
+    (λ x. rw (x .8, x .9) (settles-short (start .pre) (cleared (indexed .saved) (zero .clear-u64 .ensures)) (rw (x .1 .given .1) at indexed) (x .5 .ensures)))
+    (λ x. rw (x .2, x .3) (settles-fits (start .pre) (cleared (indexed .saved) (zero .clear-u64 .ensures)) (rw (x .1 .given .1) at indexed)))
     (joined .match .came)
 
 pub settle-spec : {M : Type 1} → statement M
@@ -73,12 +73,12 @@ settle-spec =
     slice-aggregate-index-edges
     index-edges-requires
     enum-told
-    sub-restore
-    part-restore-start
-    part-restore-end
-    restore-requires
+    sub-narrow
+    part-narrow-start
+    part-narrow-end
+    narrow-requires
     enum-told-2
-    clear-work-requires
+    clear-u64-requires
     same-length
     same-length-2
     same-length-3

@@ -1,0 +1,4 @@
+pub mod Mix
+pub mod Copying
+pub mod Parts
+pub mod Reading

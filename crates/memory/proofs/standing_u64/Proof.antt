@@ -1,0 +1,55 @@
+-- `memory::standing_u64` meets its contract. The invariant: the slots passed are not zero.
+use mathlib.Core.Path.{_≡_}
+use Prim.Native.Nat.{_-_}
+use native.Mathlib.Nat.{zero-add}
+use borrow.Author.Needs.{needs}
+use lib.ListN.{length}
+use Rattle.model.specs.Edges.{standing}
+use Rattle.memory.proofs.Reading.{standingFrom, standing-stop, standing-more, standing-end}
+use Rattle.memory.proofs.standing_u64.Statement.{statement}
+use Rattle.memory.proofs.standing_u64.Tie as tie
+
+abbrev Inv-loop : tie.InvT-loop
+Inv-loop slots i₀ i = standingFrom slots i ≡ length (standing slots)
+
+abbrev μ-loop : tie.MeasureT-loop
+μ-loop slots i₀ i = length slots - i
+
+loop-holds : tie.Need-loop-holds Inv-loop μ-loop
+loop-holds c = zero-add _
+
+mul-if1 : tie.Need-mul-if1 Inv-loop μ-loop
+mul-if1 c = search needs
+
+shared-slice-read-if1 : tie.Need-shared-slice-read-if1 Inv-loop μ-loop
+shared-slice-read-if1 c = search needs
+
+returns : tie.Need-returns Inv-loop μ-loop
+returns c = standing-stop _ _ (c .before .before .before .loop .inv) (c .before .before .loop-test .taken) (c .if1 .taken)
+
+add-i : tie.Need-add-i Inv-loop μ-loop
+add-i c = search needs
+
+loop-less : tie.Need-loop-less Inv-loop μ-loop
+loop-less c = search needs
+
+loop-again : tie.Need-loop-again Inv-loop μ-loop
+loop-again c = standing-more _ _ (c .before .before .before .loop .inv) (c .before .before .loop-test .taken) (c .if1 .left)
+
+returns-2 : tie.Need-returns-2 Inv-loop μ-loop
+returns-2 c = standing-end _ _ (c .before .loop .inv) (c .loop-test .left)
+
+pub standing-u64-spec : {M : Type 1} → statement M
+standing-u64-spec =
+    tie.close
+    (tie.spec
+    Inv-loop
+    μ-loop
+    loop-holds
+    mul-if1
+    shared-slice-read-if1
+    returns
+    add-i
+    loop-less
+    loop-again
+    returns-2)
