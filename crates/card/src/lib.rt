@@ -1,6 +1,9 @@
 // The layout card: checks of its bytes, its edges read into edge memory, and a card written.
 use checks::Standing;
+use model::FROM_UNIT;
 use model::HEAD_BYTES;
+use model::LABEL_UNIT;
+use model::LABELS;
 use model::Refusal;
 use model::TRIPLE_BYTES;
 ghost use mathlib.Core.Path.{_≡_};
@@ -25,13 +28,13 @@ fn is_marked(card: &[u8]) -> bool
     if card.len() < HEAD_BYTES {
         return false;
     }
-    if card[0] != 80 {
+    if card[0] != b'P' {
         return false;
     }
-    if card[1] != 82 {
+    if card[1] != b'R' {
         return false;
     }
-    card[2] == 67
+    card[2] == b'C'
 }
 
 // A 16-bit number, high byte first.
@@ -63,7 +66,7 @@ fn edge_at(bytes: &[u8], at: usize) -> u32
     requires { ⌜ at + 2 < length (now bytes) ⌝ }
     ensures { λ r. ⌜ r ≡ edgeAt (now (bytes .entry)) at ⌝ }
 {
-    bytes[at] as u32 * 4096 + bytes[at + 1] as u32 * 256 + bytes[at + 2] as u32
+    bytes[at] as u32 * FROM_UNIT + bytes[at + 1] as u32 * LABEL_UNIT + bytes[at + 2] as u32
 }
 
 // Whether the edges named by the bytes are rising edges of a layout with so many vertices.
@@ -138,9 +141,9 @@ fn write_head(vertices: u32, longest: u32, n: usize, output: &mut [u8])
     requires { ⌜ Head vertices longest n (now output) ⌝ }
     ensures { λ _. ⌜ now (output .exit) ≡ headOf vertices longest n ++ drop headBytes (now (output .entry)) ⌝ }
 {
-    output[0] = 80;
-    output[1] = 82;
-    output[2] = 67;
+    output[0] = b'P';
+    output[1] = b'R';
+    output[2] = b'C';
     output[3] = 0;
     output[4] = 1;
     output[5] = (vertices - 1) as u8;
@@ -158,9 +161,9 @@ fn write_edges(edges: &[u32], output: &mut [u8])
     while i < edges.len() {
         let x = edges[i];
         let at = TRIPLE_BYTES * i;
-        output[at] = (x / 4096) as u8;
-        output[at + 1] = (x / 256 % 16) as u8;
-        output[at + 2] = (x % 256) as u8;
+        output[at] = (x / FROM_UNIT) as u8;
+        output[at + 1] = (x / LABEL_UNIT % LABELS) as u8;
+        output[at + 2] = (x % LABEL_UNIT) as u8;
         i += 1;
     }
 }

@@ -1,6 +1,7 @@
 // Edge memory: the numbers of edges, check 3, lookup, the slot where a vertex's edges start, insertion and removal.
 use model::FROM_UNIT;
 use model::LABEL_UNIT;
+use model::LABELS;
 use model::MOST_EDGES;
 use model::MOST_VERTICES;
 ghost use mathlib.Core.Path.{_≡_};
@@ -12,9 +13,6 @@ ghost use Rattle.model.specs.Edges.{edgeNumber, standing};
 ghost use Rattle.model.specs.Computed.Edges.{edge?, insertEdge, removeEdge};
 ghost use Rattle.edges.specs.Memory.{scanOf, findOf, Insertable, Removable};
 ghost use Rattle.edges.specs.Slots.{Under, Skipped, Starts};
-
-// How many numbers the label's field of an edge number has room for.
-pub const LABELS: u32 = FROM_UNIT / LABEL_UNIT;
 
 const MOST_LABEL: u32 = model::MOST_LABEL as u32;
 

@@ -17,6 +17,9 @@ pub const FROM_UNIT: u32 = 4096;
 
 pub const LABEL_UNIT: u32 = 256;
 
+// How many numbers the label's field of an edge number has room for.
+pub const LABELS: u32 = FROM_UNIT / LABEL_UNIT;
+
 // "Code reads the colours as hexadecimal digits"
 pub const DIGIT_UNIT: u64 = 16;
 

@@ -1,6 +1,7 @@
 // From edges to rows: where a word leads from each vertex, and from where one label more can be spelled.
 use model::FROM_UNIT;
 use model::LABEL_UNIT;
+use model::LABELS;
 use model::MOST_LABEL;
 use model::MOST_VERTICES;
 ghost use mathlib.Core.Path.{_≡_};
@@ -123,7 +124,7 @@ pub fn branch(edges: &[u32], w: &mut [u64], starts: usize, base: usize)
     while i < edges.len() {
         let x = edges[i];
         if rows::bit(w, starts, (x % LABEL_UNIT) as usize) == 1 {
-            let c = (x / LABEL_UNIT % edges::LABELS) as usize;
+            let c = (x / LABEL_UNIT % LABELS) as usize;
             rows::mark(w, base + c - 1, (x / FROM_UNIT) as usize);
         }
         i += 1;

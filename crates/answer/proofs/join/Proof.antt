@@ -26,38 +26,14 @@ abbrev μ-join : tie.MeasureT-join
 join-holds : tie.Need-join-holds Inv-loop μ-loop Inv-join μ-join
 join-holds c = (omega arith, omega arith, joining-start _ _ _, refl)
 
-mul-x : tie.Need-mul-x Inv-loop μ-loop Inv-join μ-join
-mul-x c = search needs
-
-shared-slice-read-x : tie.Need-shared-slice-read-x Inv-loop μ-loop Inv-join μ-join
-shared-slice-read-x c = search needs
-
 loop-holds : tie.Need-loop-holds Inv-loop μ-loop Inv-join μ-join
 loop-holds c = let v = c .before .before .before .join .inv in (v .1, v .2, refl)
-
-mul-z : tie.Need-mul-z Inv-loop μ-loop Inv-join μ-join
-mul-z c = search needs
-
-shared-slice-read-z : tie.Need-shared-slice-read-z Inv-loop μ-loop Inv-join μ-join
-shared-slice-read-z c = search needs
-
-add-j : tie.Need-add-j Inv-loop μ-loop Inv-join μ-join
-add-j c = search needs
-
-loop-less : tie.Need-loop-less Inv-loop μ-loop Inv-join μ-join
-loop-less c = search needs
 
 loop-again : tie.Need-loop-again Inv-loop μ-loop Inv-join μ-join
 loop-again c =
     let v = c .before .before .before .before .loop .inv in
     let start = c .before .before .before .before .before .before .before .before .before in
     (omega arith, joining-on (v .1) (start .pre .out-rises) (omega arith), v .2)
-
-add-i : tie.Need-add-i Inv-loop μ-loop Inv-join μ-join
-add-i c = search needs
-
-join-less : tie.Need-join-less Inv-loop μ-loop Inv-join μ-join
-join-less c = search needs
 
 join-again : tie.Need-join-again Inv-loop μ-loop Inv-join μ-join
 join-again c =
@@ -96,16 +72,16 @@ join-spec =
     Inv-join
     μ-join
     join-holds
-    mul-x
-    shared-slice-read-x
+    (λ c. search needs)
+    (λ c. search needs)
     loop-holds
-    mul-z
-    shared-slice-read-z
-    add-j
-    loop-less
+    (λ c. search needs)
+    (λ c. search needs)
+    (λ c. search needs)
+    (λ c. search needs)
     loop-again
-    add-i
-    join-less
+    (λ c. search needs)
+    (λ c. search needs)
     join-again
     returns
     returns-2)

@@ -16,29 +16,8 @@ abbrev μ-loop : tie.MeasureT-loop
 loop-holds : tie.Need-loop-holds Inv-loop μ-loop
 loop-holds c = bracket-start _ _
 
-sub-mid : tie.Need-sub-mid Inv-loop μ-loop
-sub-mid c = search needs
-
-add-mid : tie.Need-add-mid Inv-loop μ-loop
-add-mid c = search needs
-
-mul-if1 : tie.Need-mul-if1 Inv-loop μ-loop
-mul-if1 c = search needs
-
-shared-slice-read-if1 : tie.Need-shared-slice-read-if1 Inv-loop μ-loop
-shared-slice-read-if1 c = search needs
-
-add-lo : tie.Need-add-lo Inv-loop μ-loop
-add-lo c = search needs
-
-loop-less : tie.Need-loop-less Inv-loop μ-loop
-loop-less c = search needs
-
 loop-again : tie.Need-loop-again Inv-loop μ-loop
 loop-again c = let l = c .before .before .before in bracket-right (l .before .pre) (l .loop .inv) _ (omega arith) (omega arith) (c .if1 .taken)
-
-loop-less-2 : tie.Need-loop-less-2 Inv-loop μ-loop
-loop-less-2 c = search needs
 
 loop-again-2 : tie.Need-loop-again-2 Inv-loop μ-loop
 loop-again-2 c = let l = c .before .before .before in bracket-left (l .before .pre) (l .loop .inv) _ (omega arith) (omega arith) (c .if1 .left)
@@ -53,13 +32,13 @@ lower-bound-spec =
     Inv-loop
     μ-loop
     loop-holds
-    sub-mid
-    add-mid
-    mul-if1
-    shared-slice-read-if1
-    add-lo
-    loop-less
+    (λ c. search needs)
+    (λ c. search needs)
+    (λ c. search needs)
+    (λ c. search needs)
+    (λ c. search needs)
+    (λ c. search needs)
     loop-again
-    loop-less-2
+    (λ c. search needs)
     loop-again-2
     returns)

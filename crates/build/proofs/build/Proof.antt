@@ -19,9 +19,6 @@ lent-is n = omega arith
 stage-requires : tie.Need-stage-requires
 stage-requires c κs = c .before .before .before .before .before .pre
 
-same-length : tie.Need-same-length
-same-length c = search needs
-
 returns : tie.Need-returns
 returns c =
     let stage = c .before .before .before in
@@ -30,29 +27,11 @@ returns c =
 slice-aggregate-write : tie.Need-slice-aggregate-write
 slice-aggregate-write c = let stage = c .before .before .before .before in order-front (start stage .args .index .now) (start stage .pre)
 
-add-write : tie.Need-add-write
-add-write c = search needs
-
-sub-write : tie.Need-sub-write
-sub-write c = search needs
-
-part-write-start : tie.Need-part-write-start
-part-write-start c = search needs
-
-part-write-end : tie.Need-part-write-end
-part-write-end c = search needs
-
 write-requires : tie.Need-write-requires
 write-requires c κs =
     let fits = c .before .before .before in
     let stage = fits .before .before .before in
     writable (start stage .args .index .now) (start stage .pre) (stage .stage .ensures) (omega (arith, fits .if1 .left)) (lent-is (stage .stage .result))
-
-same-length-2 : tie.Need-same-length-2
-same-length-2 c = search needs
-
-same-length-3 : tie.Need-same-length-3
-same-length-3 c = search needs
 
 returns-2 : tie.Need-returns-2
 returns-2 c =
@@ -67,14 +46,14 @@ build-spec =
     tie.close
     (tie.spec
     stage-requires
-    same-length
+    (λ c. search needs)
     returns
     slice-aggregate-write
-    add-write
-    sub-write
-    part-write-start
-    part-write-end
+    (λ c. search needs)
+    (λ c. search needs)
+    (λ c. search needs)
+    (λ c. search needs)
     write-requires
-    same-length-2
-    same-length-3
+    (λ c. search needs)
+    (λ c. search needs)
     returns-2)

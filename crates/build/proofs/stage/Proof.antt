@@ -12,29 +12,11 @@ use Rattle.build.proofs.stage.Tie as tie
 front : (c : tie.After-renumber) → length (c .before .before .before .before .args .edges .now) ≡ length (take (length (c .before .before .before .before .args .edges .now)) (c .renumber .result))
 front c = sym (length-take-le _ (c .renumber .result) (omega (arith, c .renumber .ensures .long, c .before .before .before .before .pre .ordered .few)))
 
-renumber-requires : tie.Need-renumber-requires
-renumber-requires c κs = search needs
-
-array-share-prefix-renumbered : tie.Need-array-share-prefix-renumbered
-array-share-prefix-renumbered c = search needs
-
 slice-aggregate-first-slots : tie.Need-slice-aggregate-first-slots
 slice-aggregate-first-slots c = front (c .before)
 
-first-slots-requires : tie.Need-first-slots-requires
-first-slots-requires c κs = search needs
-
-fill-requires : tie.Need-fill-requires
-fill-requires c κs = search needs
-
-array-share-prefix-renumbered-2 : tie.Need-array-share-prefix-renumbered-2
-array-share-prefix-renumbered-2 c = search needs
-
 slice-aggregate-node : tie.Need-slice-aggregate-node
 slice-aggregate-node c = front (c .before .before .before .before .before .before .before)
-
-slice-aggregate-node-2 : tie.Need-slice-aggregate-node-2
-slice-aggregate-node-2 c = search needs
 
 node-requires : tie.Need-node-requires
 node-requires c κs =
@@ -49,9 +31,6 @@ node-requires c κs =
     (root .fill .ensures)
     (omega (arith, pre .bounds .longest-least))
     (omega (arith, pre .bounds .longest-most))
-
-same-length : tie.Need-same-length
-same-length c = search needs
 
 returns : tie.Need-returns
 returns c =
@@ -70,14 +49,14 @@ pub stage-spec : {M : Type 1} → statement M
 stage-spec =
     tie.close
     (tie.spec
-    renumber-requires
-    array-share-prefix-renumbered
+    (λ c κs. search needs)
+    (λ c. search needs)
     slice-aggregate-first-slots
-    first-slots-requires
-    fill-requires
-    array-share-prefix-renumbered-2
+    (λ c κs. search needs)
+    (λ c κs. search needs)
+    (λ c. search needs)
     slice-aggregate-node
-    slice-aggregate-node-2
+    (λ c. search needs)
     node-requires
-    same-length
+    (λ c. search needs)
     returns)

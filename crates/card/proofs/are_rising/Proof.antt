@@ -18,12 +18,6 @@ abbrev μ-loop : tie.MeasureT-loop
 loop-holds : tie.Need-loop-holds Inv-loop μ-loop
 loop-holds c = (omega arith, omega arith, refl)
 
-is-edge-at-requires : tie.Need-is-edge-at-requires Inv-loop μ-loop
-is-edge-at-requires c κs = omega arith
-
-edge-at-requires : tie.Need-edge-at-requires Inv-loop μ-loop
-edge-at-requires c κs = omega arith
-
 -- an edge's three bytes are there
 whole : (c : tie.After-is-edge-at Inv-loop μ-loop) → c .before .before .loop .i + 2 < length (c .before .before .before .before .args .body .now)
 whole c = omega arith
@@ -37,12 +31,6 @@ returns c =
     let is = sym (test .is-edge-at .ensures) ∙ edge .before .if1 .taken in
     let low : edgeAt (start .args .body .now) (at .loop .i) ≤ at .loop .prev = omega (arith, rw (edge .edge-at .ensures) at (c .if2 .taken)) in
     sym (triples-low (start .args .vertices) (at .loop .prev) (start .args .body .now) (at .loop .i) (whole test) is low) ∙ at .loop .inv .2
-
-add-i : tie.Need-add-i Inv-loop μ-loop
-add-i c = search needs
-
-loop-less : tie.Need-loop-less Inv-loop μ-loop
-loop-less c = search needs
 
 loop-again : tie.Need-loop-again Inv-loop μ-loop
 loop-again c =
@@ -71,11 +59,11 @@ are-rising-spec =
     Inv-loop
     μ-loop
     loop-holds
-    is-edge-at-requires
-    edge-at-requires
+    (λ c κs. omega arith)
+    (λ c κs. omega arith)
     returns
-    add-i
-    loop-less
+    (λ c. search needs)
+    (λ c. search needs)
     loop-again
     returns-2
     returns-3)

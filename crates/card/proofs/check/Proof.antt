@@ -22,9 +22,6 @@ headed c = marked-head (c .before .before .before .args .card .now) (marked c)
 versioned : (c : tie.Else2) → version? (c .before .before .before .before .before .args .card .now) ≡ true
 versioned c = eq-eqb _ 1 (sym (c .before .word .ensures) ∙ c .if2 .left)
 
-is-marked-requires : tie.Need-is-marked-requires
-is-marked-requires c κs = search needs
-
 word-requires : tie.Need-word-requires
 word-requires c κs = omega (arith, headed c)
 
@@ -38,9 +35,6 @@ shared-slice-read-longest c = omega (arith, headed (c .before .before .before))
 
 cast-longest : tie.Need-cast-longest
 cast-longest c = omega (arith, c .shared-slice-known2 .given 6)
-
-is-longest-requires : tie.Need-is-longest-requires
-is-longest-requires c κs = search needs
 
 has-edges-requires : tie.Need-has-edges-requires
 has-edges-requires c κs = headed (c .before .before .before .before .before)
@@ -56,9 +50,6 @@ add-t14 c = omega (arith, c .shared-slice-known3 .given 5)
 
 word-requires-2 : tie.Need-word-requires-2
 word-requires-2 c κs = omega (arith, headed (c .before .before .before .before .before .before .before .before))
-
-cast-t16 : tie.Need-cast-t16
-cast-t16 c = search needs
 
 returns-2 : tie.Need-returns-2
 returns-2 c =
@@ -104,18 +95,18 @@ pub check-spec : {M : Type 1} → statement M
 check-spec =
     tie.close
     (tie.spec
-    is-marked-requires
+    (λ c κs. search needs)
     word-requires
     returns
     shared-slice-read-longest
     cast-longest
-    is-longest-requires
+    (λ c κs. search needs)
     has-edges-requires
     shared-slice-read-t12
     cast-t13
     add-t14
     word-requires-2
-    cast-t16
+    (λ c. search needs)
     returns-2
     returns-3
     returns-4

@@ -20,12 +20,6 @@ layout c = rw (c .before .layout .given .1) at (c .before .before .before .check
 few : (c : tie.After-known-told) → c .before .layout .given .0 .0 ≤ mostEdges
 few c = let s = layout-memory (layout c) in omega (arith, s .within, s .slots)
 
-check-layout-requires : tie.Need-check-layout-requires
-check-layout-requires c κs = search needs
-
-enum-known-layout : tie.Need-enum-known-layout
-enum-known-layout c = search needs
-
 enum-told : tie.Need-enum-told
 enum-told c = search needs
 
@@ -49,8 +43,8 @@ pub check-write-spec : {M : Type 1} → statement M
 check-write-spec =
     tie.close
     (tie.spec
-    check-layout-requires
-    enum-known-layout
+    (λ c κs. search needs)
+    (λ c. search needs)
     enum-told
     returns
     mul-if1

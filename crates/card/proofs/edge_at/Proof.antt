@@ -1,24 +1,15 @@
--- `card::edge` meets its contract: three bytes fit in a number.
+-- `card::edge_at` meets its contract: three bytes fit in a number.
 use Prim.Native.Nat.{_+_}
 use native.Mathlib.Omega.{arith}
 use borrow.Author.Needs.{needs}
 use Rattle.card.proofs.edge_at.Statement.{statement}
 use Rattle.card.proofs.edge_at.Tie as tie
 
-shared-slice-read-result : tie.Need-shared-slice-read-result
-shared-slice-read-result c = search needs
-
 cast-result : tie.Need-cast-result
 cast-result c = omega (arith, c .shared-slice-known .given (c .before .args .at))
 
 mul-result : tie.Need-mul-result
 mul-result c = omega (arith, c .shared-slice-known .given (c .before .args .at))
-
-add-result : tie.Need-add-result
-add-result c = search needs
-
-shared-slice-read-result-2 : tie.Need-shared-slice-read-result-2
-shared-slice-read-result-2 c = search needs
 
 cast-result-2 : tie.Need-cast-result-2
 cast-result-2 c = omega (arith, c .shared-slice-known2 .given (c .before .before .args .at + 1))
@@ -31,12 +22,6 @@ add-result-2 c =
     let at = c .before .before .args .at in
     omega (arith, c .shared-slice-known2 .given at, c .shared-slice-known2 .given (at + 1))
 
-add-result-3 : tie.Need-add-result-3
-add-result-3 c = search needs
-
-shared-slice-read-result-3 : tie.Need-shared-slice-read-result-3
-shared-slice-read-result-3 c = search needs
-
 cast-result-3 : tie.Need-cast-result-3
 cast-result-3 c = omega (arith, c .shared-slice-known3 .given (c .before .before .before .args .at + 2))
 
@@ -45,23 +30,20 @@ add-result-4 c =
     let at = c .before .before .before .args .at in
     omega (arith, c .shared-slice-known3 .given at, c .shared-slice-known3 .given (at + 1), c .shared-slice-known3 .given (at + 2))
 
-returns : tie.Need-returns
-returns c = search needs
-
 pub edge-at-spec : {M : Type 1} → statement M
 edge-at-spec =
     tie.close
     (tie.spec
-    shared-slice-read-result
+    (λ c. search needs)
     cast-result
     mul-result
-    add-result
-    shared-slice-read-result-2
+    (λ c. search needs)
+    (λ c. search needs)
     cast-result-2
     mul-result-2
     add-result-2
-    add-result-3
-    shared-slice-read-result-3
+    (λ c. search needs)
+    (λ c. search needs)
     cast-result-3
     add-result-4
-    returns)
+    (λ c. search needs))

@@ -24,49 +24,13 @@ loop-holds c =
     let p = c .before .before .pre in
     copy-start (cardEdges p) (c .before .before .args .edges .now) (omega (arith, card-edges-size p, p .room))
 
-mul-edge-at : tie.Need-mul-edge-at Inv-loop μ-loop
-mul-edge-at c = search needs
-
-add-edge-at : tie.Need-add-edge-at Inv-loop μ-loop
-add-edge-at c = search needs
-
 edge-at-requires : tie.Need-edge-at-requires Inv-loop μ-loop
 edge-at-requires c κs = omega (arith, c .before .before .before .before .pre .whole)
-
-mul-edges : tie.Need-mul-edges Inv-loop μ-loop
-mul-edges c = search needs
-
-slice-write-edges : tie.Need-slice-write-edges Inv-loop μ-loop
-slice-write-edges c = search needs
-
-add-i : tie.Need-add-i Inv-loop μ-loop
-add-i c = search needs
-
-loop-less : tie.Need-loop-less Inv-loop μ-loop
-loop-less c = search needs
 
 loop-again : tie.Need-loop-again Inv-loop μ-loop
 loop-again c =
     let at = c .before .before in
     fill-turn (at .before .before .before .pre) (at .loop .inv) (omega (arith, c .before .loop-test .taken)) (c .edge-at .ensures)
-
-mul-clear-u32 : tie.Need-mul-clear-u32 Inv-loop μ-loop
-mul-clear-u32 c = search needs
-
-sub-clear-u32 : tie.Need-sub-clear-u32 Inv-loop μ-loop
-sub-clear-u32 c = search needs
-
-part-clear-u32-start : tie.Need-part-clear-u32-start Inv-loop μ-loop
-part-clear-u32-start c = search needs
-
-part-clear-u32-end : tie.Need-part-clear-u32-end Inv-loop μ-loop
-part-clear-u32-end c = search needs
-
-clear-u32-requires : tie.Need-clear-u32-requires Inv-loop μ-loop
-clear-u32-requires c κs = search needs
-
-same-length : tie.Need-same-length Inv-loop μ-loop
-same-length c = search needs
 
 returns : tie.Need-returns Inv-loop μ-loop
 returns c =
@@ -85,18 +49,18 @@ fill-spec =
     Inv-loop
     μ-loop
     loop-holds
-    mul-edge-at
-    add-edge-at
+    (λ c. search needs)
+    (λ c. search needs)
     edge-at-requires
-    mul-edges
-    slice-write-edges
-    add-i
-    loop-less
+    (λ c. search needs)
+    (λ c. search needs)
+    (λ c. search needs)
+    (λ c. search needs)
     loop-again
-    mul-clear-u32
-    sub-clear-u32
-    part-clear-u32-start
-    part-clear-u32-end
-    clear-u32-requires
-    same-length
+    (λ c. search needs)
+    (λ c. search needs)
+    (λ c. search needs)
+    (λ c. search needs)
+    (λ c κs. search needs)
+    (λ c. search needs)
     returns)

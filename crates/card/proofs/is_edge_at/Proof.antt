@@ -1,4 +1,4 @@
--- `card::is_leg` meets its contract.
+-- `card::is_edge_at` meets its contract.
 use mathlib.Core.Path.{sym, _∙_}
 use Prim.Native.Nat.{_+_}
 use native.Mathlib.Omega.{arith}
@@ -7,35 +7,14 @@ use Rattle.calls.proofs.Card.{and-pass, and-stop}
 use Rattle.card.proofs.is_edge_at.Statement.{statement}
 use Rattle.card.proofs.is_edge_at.Tie as tie
 
-shared-slice-read-from : tie.Need-shared-slice-read-from
-shared-slice-read-from c = search needs
-
 cast-from : tie.Need-cast-from
 cast-from c = omega (arith, c .shared-slice-known2 .given (c .before .before .args .at))
-
-add-label : tie.Need-add-label
-add-label c = search needs
-
-shared-slice-read-label : tie.Need-shared-slice-read-label
-shared-slice-read-label c = search needs
 
 cast-label : tie.Need-cast-label
 cast-label c = omega (arith, c .shared-slice-known3 .given (c .before .before .before .args .at + 1))
 
-add-to : tie.Need-add-to
-add-to c = search needs
-
-shared-slice-read-to : tie.Need-shared-slice-read-to
-shared-slice-read-to c = search needs
-
 cast-to : tie.Need-cast-to
 cast-to c = omega (arith, c .shared-slice-known4 .given (c .before .before .before .before .args .at + 2))
-
-are-vertices-requires : tie.Need-are-vertices-requires
-are-vertices-requires c κs = search needs
-
-is-label-requires : tie.Need-is-label-requires
-is-label-requires c κs = search needs
 
 returns : tie.Need-returns
 returns c = c .is-label .ensures ∙ sym (and-pass (sym (c .before .before .are-vertices .ensures) ∙ c .before .if1 .taken))
@@ -47,15 +26,15 @@ pub is-edge-at-spec : {M : Type 1} → statement M
 is-edge-at-spec =
     tie.close
     (tie.spec
-    shared-slice-read-from
+    (λ c. search needs)
     cast-from
-    add-label
-    shared-slice-read-label
+    (λ c. search needs)
+    (λ c. search needs)
     cast-label
-    add-to
-    shared-slice-read-to
+    (λ c. search needs)
+    (λ c. search needs)
     cast-to
-    are-vertices-requires
-    is-label-requires
+    (λ c κs. search needs)
+    (λ c κs. search needs)
     returns
     returns-2)

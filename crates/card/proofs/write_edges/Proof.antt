@@ -1,4 +1,4 @@
--- `card::write_legs` meets its contract. The invariant: the first i edges are written, and the bytes behind them are as they came.
+-- `card::write_edges` meets its contract. The invariant: the first i edges are written, and the bytes behind them are as they came.
 use Prim.Native.Nat.{_-_, _*_}
 use native.Mathlib.Omega.{arith}
 use lib.ListN.{length, length-set}
@@ -18,12 +18,6 @@ abbrev μ-loop : tie.MeasureT-loop
 loop-holds : tie.Need-loop-holds Inv-loop μ-loop
 loop-holds c = body-start (c .pre)
 
-mul-x : tie.Need-mul-x Inv-loop μ-loop
-mul-x c = search needs
-
-shared-slice-read-x : tie.Need-shared-slice-read-x Inv-loop μ-loop
-shared-slice-read-x c = search needs
-
 mul-at : tie.Need-mul-at Inv-loop μ-loop
 mul-at c = omega (arith, c .before .before .before .pre .room)
 
@@ -35,29 +29,11 @@ cast-output c =
 slice-write-output : tie.Need-slice-write-output Inv-loop μ-loop
 slice-write-output c = omega (arith, c .before .before .before .pre .room, c .before .before .loop .inv .size)
 
-cast-output-2 : tie.Need-cast-output-2 Inv-loop μ-loop
-cast-output-2 c = search needs
-
-add-output : tie.Need-add-output Inv-loop μ-loop
-add-output c = search needs
-
 slice-write-output-2 : tie.Need-slice-write-output-2 Inv-loop μ-loop
 slice-write-output-2 c = simp length-set (omega (arith, c .before .before .before .pre .room, c .before .before .loop .inv .size))
 
-cast-output-3 : tie.Need-cast-output-3 Inv-loop μ-loop
-cast-output-3 c = search needs
-
-add-output-2 : tie.Need-add-output-2 Inv-loop μ-loop
-add-output-2 c = search needs
-
 slice-write-output-3 : tie.Need-slice-write-output-3 Inv-loop μ-loop
 slice-write-output-3 c = simp length-set (omega (arith, c .before .before .before .pre .room, c .before .before .loop .inv .size))
-
-add-i : tie.Need-add-i Inv-loop μ-loop
-add-i c = search needs
-
-loop-less : tie.Need-loop-less Inv-loop μ-loop
-loop-less c = search needs
 
 loop-again : tie.Need-loop-again Inv-loop μ-loop
 loop-again c =
@@ -77,19 +53,19 @@ write-edges-spec =
     Inv-loop
     μ-loop
     loop-holds
-    mul-x
-    shared-slice-read-x
+    (λ c. search needs)
+    (λ c. search needs)
     mul-at
     cast-output
     slice-write-output
-    cast-output-2
-    add-output
+    (λ c. search needs)
+    (λ c. search needs)
     slice-write-output-2
-    cast-output-3
-    add-output-2
+    (λ c. search needs)
+    (λ c. search needs)
     slice-write-output-3
-    add-i
-    loop-less
+    (λ c. search needs)
+    (λ c. search needs)
     loop-again
     same-length
     returns)

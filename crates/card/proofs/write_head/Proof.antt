@@ -7,9 +7,6 @@ use borrow.Author.Needs.{needs}
 use Rattle.card.proofs.write_head.Statement.{statement}
 use Rattle.card.proofs.write_head.Tie as tie
 
-slice-write-output : tie.Need-slice-write-output
-slice-write-output c = search needs
-
 slice-write-output-2 : tie.Need-slice-write-output-2
 slice-write-output-2 c = simp length-set (omega arith)
 
@@ -22,35 +19,17 @@ slice-write-output-4 c = simp length-set (omega arith)
 slice-write-output-5 : tie.Need-slice-write-output-5
 slice-write-output-5 c = simp length-set (omega arith)
 
-sub-output : tie.Need-sub-output
-sub-output c = search needs
-
-cast-output : tie.Need-cast-output
-cast-output c = search needs
-
 slice-write-output-6 : tie.Need-slice-write-output-6
 slice-write-output-6 c = simp length-set (omega arith)
-
-cast-output-2 : tie.Need-cast-output-2
-cast-output-2 c = search needs
 
 slice-write-output-7 : tie.Need-slice-write-output-7
 slice-write-output-7 c = simp length-set (omega arith)
 
-cast-output-3 : tie.Need-cast-output-3
-cast-output-3 c = search needs
-
 slice-write-output-8 : tie.Need-slice-write-output-8
 slice-write-output-8 c = simp length-set (omega arith)
 
-cast-output-4 : tie.Need-cast-output-4
-cast-output-4 c = search needs
-
 slice-write-output-9 : tie.Need-slice-write-output-9
 slice-write-output-9 c = simp length-set (omega arith)
-
-same-length : tie.Need-same-length
-same-length c = search needs
 
 returns : tie.Need-returns
 returns c = sets-eq (headOf (c .args .vertices) (c .args .longest) (c .args .n)) (c .args .output .now) 0 (c .pre .room)
@@ -59,19 +38,19 @@ pub write-head-spec : {M : Type 1} → statement M
 write-head-spec =
     tie.close
     (tie.spec
-    slice-write-output
+    (λ c. search needs)
     slice-write-output-2
     slice-write-output-3
     slice-write-output-4
     slice-write-output-5
-    sub-output
-    cast-output
+    (λ c. search needs)
+    (λ c. search needs)
     slice-write-output-6
-    cast-output-2
+    (λ c. search needs)
     slice-write-output-7
-    cast-output-3
+    (λ c. search needs)
     slice-write-output-8
-    cast-output-4
+    (λ c. search needs)
     slice-write-output-9
-    same-length
+    (λ c. search needs)
     returns)

@@ -15,23 +15,11 @@ passed : (c : tie.After-known-told2)
     → CardPasses (start c .args .card .now) (record { vertices = c .before .checked2 .given .0 .0; longest = c .before .checked2 .given .0 .1 .0 }) (c .before .checked2 .given .0 .1 .1 .0)
 passed c = rw (c .before .checked2 .given .1) at (c .before .before .before .check .ensures)
 
-check-requires : tie.Need-check-requires
-check-requires c κs = search needs
-
-enum-known-checked : tie.Need-enum-known-checked
-enum-known-checked c = search needs
-
-enum-known-checked-2 : tie.Need-enum-known-checked-2
-enum-known-checked-2 c = search needs
-
 returns : tie.Need-returns
 returns c = read-many _ _ (passed (c .before) .is) (c .if1 .taken)
 
 returns-2 : tie.Need-returns-2
 returns-2 c = let p = passed (c .before .before) in read-full _ _ (p .is) (c .before .if1 .left) (omega (arith, c .if2 .taken, p .count))
-
-has-room-requires : tie.Need-has-room-requires
-has-room-requires c κs = search needs
 
 returns-3 : tie.Need-returns-3
 returns-3 c =
@@ -57,12 +45,12 @@ pub check-read-spec : {M : Type 1} → statement M
 check-read-spec =
     tie.close
     (tie.spec
-    check-requires
-    enum-known-checked
-    enum-known-checked-2
+    (λ c κs. search needs)
+    (λ c. search needs)
+    (λ c. search needs)
     returns
     returns-2
-    has-room-requires
+    (λ c κs. search needs)
     returns-3
     returns-4
     returns-5)

@@ -50,15 +50,6 @@ tried c =
       saves = c .before .before .before .before .before .before .before .save .ensures;
     }
 
-check-insert-requires : tie.Need-check-insert-requires
-check-insert-requires c κs = search needs
-
-enum-known-slot : tie.Need-enum-known-slot
-enum-known-slot c = search needs
-
-enum-known-slot-2 : tie.Need-enum-known-slot-2
-enum-known-slot-2 c = search needs
-
 save-requires : tie.Need-save-requires
 save-requires c κs = save-room (insert-wanted (passed (c .before .before)))
 
@@ -76,26 +67,8 @@ settle-requires c κs =
     let k = c .before .before .before in
     settleable (insert-wanted (passed (checked k))) (tried k)
 
-same-length : tie.Need-same-length
-same-length c = search needs
-
-same-length-2 : tie.Need-same-length-2
-same-length-2 c = search needs
-
-same-length-3 : tie.Need-same-length-3
-same-length-3 c = search needs
-
 returns : tie.Need-returns
 returns c = insert-stops _ _ _ _ _ (c .before .slot .given .0 .0) (rw (c .before .slot .given .1) at (c .before .before .before .check-insert .ensures))
-
-same-length-4 : tie.Need-same-length-4
-same-length-4 c = search needs
-
-same-length-5 : tie.Need-same-length-5
-same-length-5 c = search needs
-
-same-length-6 : tie.Need-same-length-6
-same-length-6 c = search needs
 
 returns-2 : tie.Need-returns-2
 returns-2 c =
@@ -108,19 +81,19 @@ pub insert-spec : {M : Type 1} → statement M
 insert-spec =
     tie.close
     (tie.spec
-    check-insert-requires
-    enum-known-slot
-    enum-known-slot-2
+    (λ c κs. search needs)
+    (λ c. search needs)
+    (λ c. search needs)
     save-requires
     edge-number-requires
     insert-requires
     add-settle
     settle-requires
-    same-length
-    same-length-2
-    same-length-3
+    (λ c. search needs)
+    (λ c. search needs)
+    (λ c. search needs)
     returns
-    same-length-4
-    same-length-5
-    same-length-6
+    (λ c. search needs)
+    (λ c. search needs)
+    (λ c. search needs)
     returns-2)

@@ -16,12 +16,6 @@ use Rattle.changes.proofs.open.Tie as tie
 header : (c : tie.After-enum-told) → headerRefusal (c .before .before .before .before .before .args .vertices) (c .before .before .before .before .before .args .longest) ≡ 0
 header c = sym (c .before .before .check-header .ensures) ∙ ap answerOf (c .enum-told .given .1)
 
-check-header-requires : tie.Need-check-header-requires
-check-header-requires c κs = search needs
-
-enum-known-header : tie.Need-enum-known-header
-enum-known-header c = search needs
-
 returns : tie.Need-returns
 unfolding openRefusal
 returns c =
@@ -35,18 +29,6 @@ returns-2 : tie.Need-returns-2
 unfolding openRefusal
 returns-2 c = open-stops _ _ EdgeMemory (first-is (header-pass _ _ (header (c .before)) (stop (lt-leb _ _ (c .if1 .taken)))))
 
-clear-u32-requires : tie.Need-clear-u32-requires
-clear-u32-requires c κs = search needs
-
-clear-u64-requires : tie.Need-clear-u64-requires
-clear-u64-requires c κs = search needs
-
-same-length : tie.Need-same-length
-same-length c = search needs
-
-same-length-2 : tie.Need-same-length-2
-same-length-2 c = search needs
-
 returns-3 : tie.Need-returns-3
 unfolding openRefusal
 returns-3 c =
@@ -58,13 +40,13 @@ pub open-spec : {M : Type 1} → statement M
 open-spec =
     tie.close
     (tie.spec
-    check-header-requires
-    enum-known-header
+    (λ c κs. search needs)
+    (λ c. search needs)
     returns
     enum-told
     returns-2
-    clear-u32-requires
-    clear-u64-requires
-    same-length
-    same-length-2
+    (λ c κs. search needs)
+    (λ c κs. search needs)
+    (λ c. search needs)
+    (λ c. search needs)
     returns-3)

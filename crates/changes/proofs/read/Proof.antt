@@ -60,15 +60,6 @@ leaves : (c : tie.After-settle)
     (lent (c .settle .last .1 .1 .1 .0) (c .settle .last .1 .1 .1 .1 .0) (c .settle .last .1 .1 .1 .1 .1 .0))
 leaves c = settled (wanted (checked (filled c))) (tried (filled c)) noRecord refl (c .settle .ensures)
 
-check-read-requires : tie.Need-check-read-requires
-check-read-requires c κs = search needs
-
-enum-known-layout : tie.Need-enum-known-layout
-enum-known-layout c = search needs
-
-enum-known-layout-2 : tie.Need-enum-known-layout-2
-enum-known-layout-2 c = search needs
-
 save-requires : tie.Need-save-requires
 save-requires c κs = save-room (wanted (c .before .before))
 
@@ -78,18 +69,6 @@ fill-requires c κs = read-fillable (passed (c .before .before .before .before .
 settle-requires : tie.Need-settle-requires
 settle-requires c κs = settleable (wanted (checked (c .before .before .before))) (tried (c .before .before .before))
 
-enum-known-answer : tie.Need-enum-known-answer
-enum-known-answer c = search needs
-
-same-length : tie.Need-same-length
-same-length c = search needs
-
-same-length-2 : tie.Need-same-length-2
-same-length-2 c = search needs
-
-same-length-3 : tie.Need-same-length-3
-same-length-3 c = search needs
-
 returns : tie.Need-returns
 returns c =
     let k = c .before .before .before .before .before .before .before .before .before in
@@ -98,27 +77,9 @@ returns c =
 enum-told : tie.Need-enum-told
 enum-told c = search needs
 
-same-length-4 : tie.Need-same-length-4
-same-length-4 c = search needs
-
-same-length-5 : tie.Need-same-length-5
-same-length-5 c = search needs
-
-same-length-6 : tie.Need-same-length-6
-same-length-6 c = search needs
-
 returns-2 : tie.Need-returns-2
 returns-2 c =
     refused-leaves _ _ (c .before .layout .given .0 .0) (rw (c .before .layout .given .1) at (c .before .before .before .check-read .ensures))
-
-same-length-7 : tie.Need-same-length-7
-same-length-7 c = search needs
-
-same-length-8 : tie.Need-same-length-8
-same-length-8 c = search needs
-
-same-length-9 : tie.Need-same-length-9
-same-length-9 c = search needs
 
 returns-3 : tie.Need-returns-3
 returns-3 c =
@@ -129,23 +90,23 @@ pub read-spec : {M : Type 1} → statement M
 read-spec =
     tie.close
     (tie.spec
-    check-read-requires
-    enum-known-layout
-    enum-known-layout-2
+    (λ c κs. search needs)
+    (λ c. search needs)
+    (λ c. search needs)
     save-requires
     fill-requires
     settle-requires
-    enum-known-answer
-    same-length
-    same-length-2
-    same-length-3
+    (λ c. search needs)
+    (λ c. search needs)
+    (λ c. search needs)
+    (λ c. search needs)
     returns
     enum-told
-    same-length-4
-    same-length-5
-    same-length-6
+    (λ c. search needs)
+    (λ c. search needs)
+    (λ c. search needs)
     returns-2
-    same-length-7
-    same-length-8
-    same-length-9
+    (λ c. search needs)
+    (λ c. search needs)
+    (λ c. search needs)
     returns-3)

@@ -50,15 +50,6 @@ tried c =
       saves = c .before .before .before .before .before .before .before .save .ensures;
     }
 
-check-remove-requires : tie.Need-check-remove-requires
-check-remove-requires c κs = search needs
-
-enum-known-slot : tie.Need-enum-known-slot
-enum-known-slot c = search needs
-
-enum-known-slot-2 : tie.Need-enum-known-slot-2
-enum-known-slot-2 c = search needs
-
 save-requires : tie.Need-save-requires
 save-requires c κs = save-room (remove-wanted (passed (c .before .before)))
 
@@ -76,26 +67,8 @@ settle-requires c κs =
     let k = c .before .before .before in
     settleable (remove-wanted (passed (checked k))) (tried k)
 
-same-length : tie.Need-same-length
-same-length c = search needs
-
-same-length-2 : tie.Need-same-length-2
-same-length-2 c = search needs
-
-same-length-3 : tie.Need-same-length-3
-same-length-3 c = search needs
-
 returns : tie.Need-returns
 returns c = remove-stops _ _ _ _ _ (c .before .slot .given .0 .0) (rw (c .before .slot .given .1) at (c .before .before .before .check-remove .ensures))
-
-same-length-4 : tie.Need-same-length-4
-same-length-4 c = search needs
-
-same-length-5 : tie.Need-same-length-5
-same-length-5 c = search needs
-
-same-length-6 : tie.Need-same-length-6
-same-length-6 c = search needs
 
 returns-2 : tie.Need-returns-2
 returns-2 c =
@@ -108,19 +81,19 @@ pub remove-spec : {M : Type 1} → statement M
 remove-spec =
     tie.close
     (tie.spec
-    check-remove-requires
-    enum-known-slot
-    enum-known-slot-2
+    (λ c κs. search needs)
+    (λ c. search needs)
+    (λ c. search needs)
     save-requires
     edge-number-requires
     remove-requires
     sub-settle
     settle-requires
-    same-length
-    same-length-2
-    same-length-3
+    (λ c. search needs)
+    (λ c. search needs)
+    (λ c. search needs)
     returns
-    same-length-4
-    same-length-5
-    same-length-6
+    (λ c. search needs)
+    (λ c. search needs)
+    (λ c. search needs)
     returns-2)

@@ -14,27 +14,12 @@ use Rattle.checks.proofs.check_layout.Tie as tie
 header : (c : tie.After-enum-told) → headerRefusal (c .before .before .before .before .args .vertices) (c .before .before .before .before .args .longest) ≡ 0
 header c = sym (c .before .before .check-header .ensures) ∙ ap answerOf (c .enum-told .given .1)
 
-check-header-requires : tie.Need-check-header-requires
-check-header-requires c κs = search needs
-
-enum-known-header : tie.Need-enum-known-header
-enum-known-header c = search needs
-
 returns : tie.Need-returns
 unfolding layoutRefusal
 returns c = first-is (header-stop _ _ (sym (c .before .before .before .check-header .ensures) ∙ ap answerOf (c .before .header .given .1)) (number-some (c .before .header .given .0 .0)))
 
 enum-told : tie.Need-enum-told
 enum-told c = search needs
-
-scan-requires : tie.Need-scan-requires
-scan-requires c κs = search needs
-
-enum-known-scanned : tie.Need-enum-known-scanned
-enum-known-scanned c = search needs
-
-enum-told-2 : tie.Need-enum-told-2
-enum-told-2 c = search needs
 
 returns-2 : tie.Need-returns-2
 unfolding layoutRefusal
@@ -50,12 +35,12 @@ pub check-layout-spec : {M : Type 1} → statement M
 check-layout-spec =
     tie.close
     (tie.spec
-    check-header-requires
-    enum-known-header
+    (λ c κs. search needs)
+    (λ c. search needs)
     returns
     enum-told
-    scan-requires
-    enum-known-scanned
-    enum-told-2
+    (λ c κs. search needs)
+    (λ c. search needs)
+    (λ c. search needs)
     returns-2
     returns-3)

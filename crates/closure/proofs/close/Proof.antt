@@ -23,9 +23,6 @@ close-row-requires c κs =
     let turn = c .before .before in
     record { domain = closing-domain (turn .loop .inv) (turn .before .before .before .before .pre); row = c .before .loop-test .taken; whole = turn .loop .inv .whole }
 
-add-next : tie.Need-add-next Inv-loop μ-loop
-add-next c = omega arith
-
 next-requires-2 : tie.Need-next-requires-2 Inv-loop μ-loop
 next-requires-2 c κs =
     let turn = c .before .before .before .before .before .before in
@@ -54,7 +51,7 @@ close-spec =
     next-requires
     loop-holds
     close-row-requires
-    add-next
+    (λ c. omega arith)
     next-requires-2
     loop-less
     loop-again

@@ -14,26 +14,11 @@ taken c =
     let start = c .before .before .before .before .before .before .before .before .before in
     takes-one (start .pre .0) (start .pre .1 .0) (c .before .before .before .before .before .before .union .ensures) (c .before .before .unmark .ensures)
 
-union-requires : tie.Need-union-requires
-union-requires c κs = search needs
-
-unmark-requires : tie.Need-unmark-requires
-unmark-requires c κs = search needs
-
-subtract-requires : tie.Need-subtract-requires
-subtract-requires c κs = search needs
-
-same-length : tie.Need-same-length
-same-length c = search needs
-
 returns : tie.Need-returns
 returns c =
     let branch = c .before .before .before .before in
     let start = branch .before .before .before .before .before .before .before .before .before .before in
     takes-row (start .pre .0) (start .pre .1 .0) (omega (arith, branch .if1 .taken)) (taken (branch .before)) (c .before .before .subtract .ensures)
-
-same-length-2 : tie.Need-same-length-2
-same-length-2 c = search needs
 
 returns-2 : tie.Need-returns-2
 returns-2 c = taken (c .before)
@@ -42,10 +27,10 @@ pub take-in-spec : {M : Type 1} → statement M
 take-in-spec =
     tie.close
     (tie.spec
-    union-requires
-    unmark-requires
-    subtract-requires
-    same-length
+    (λ c κs. search needs)
+    (λ c κs. search needs)
+    (λ c κs. search needs)
+    (λ c. search needs)
     returns
-    same-length-2
+    (λ c. search needs)
     returns-2)

@@ -16,26 +16,8 @@ abbrev μ-loop : tie.MeasureT-loop
 loop-holds : tie.Need-loop-holds Inv-loop μ-loop
 loop-holds c = (zero-le, (starts-none _, under-none _ _))
 
-mul-skip : tie.Need-mul-skip Inv-loop μ-loop
-mul-skip c = search needs
-
 skip-requires : tie.Need-skip-requires Inv-loop μ-loop
 skip-requires c κs = c .before .loop .inv .1 .1
-
-cast-slots : tie.Need-cast-slots Inv-loop μ-loop
-cast-slots c = search needs
-
-mul-slots : tie.Need-mul-slots Inv-loop μ-loop
-mul-slots c = search needs
-
-array-write-slots : tie.Need-array-write-slots Inv-loop μ-loop
-array-write-slots c = search needs
-
-add-v : tie.Need-add-v Inv-loop μ-loop
-add-v c = search needs
-
-loop-less : tie.Need-loop-less Inv-loop μ-loop
-loop-less c = search needs
 
 loop-again : tie.Need-loop-again Inv-loop μ-loop
 loop-again c =
@@ -58,12 +40,12 @@ first-slots-spec =
     Inv-loop
     μ-loop
     loop-holds
-    mul-skip
+    (λ c. search needs)
     skip-requires
-    cast-slots
-    mul-slots
-    array-write-slots
-    add-v
-    loop-less
+    (λ c. search needs)
+    (λ c. search needs)
+    (λ c. search needs)
+    (λ c. search needs)
+    (λ c. search needs)
     loop-again
     returns)

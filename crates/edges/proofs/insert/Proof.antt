@@ -17,37 +17,10 @@ abbrev μ-loop : tie.MeasureT-loop
 loop-holds : tie.Need-loop-holds Inv-loop μ-loop
 loop-holds c = (insert-start (c .pre), insert-most (c .pre), omega arith)
 
-sub-edges : tie.Need-sub-edges Inv-loop μ-loop
-sub-edges c = search needs
-
-mul-edges : tie.Need-mul-edges Inv-loop μ-loop
-mul-edges c = search needs
-
-slice-read-edges : tie.Need-slice-read-edges Inv-loop μ-loop
-slice-read-edges c = search needs
-
-mul-edges-2 : tie.Need-mul-edges-2 Inv-loop μ-loop
-mul-edges-2 c = search needs
-
-slice-write-edges : tie.Need-slice-write-edges Inv-loop μ-loop
-slice-write-edges c = search needs
-
-sub-i : tie.Need-sub-i Inv-loop μ-loop
-sub-i c = search needs
-
-loop-less : tie.Need-loop-less Inv-loop μ-loop
-loop-less c = search needs
-
 loop-again : tie.Need-loop-again Inv-loop μ-loop
 loop-again c =
     let l = c .before .before in
     (insert-turn (l .before .pre) (l .loop .inv .0) (c .before .loop-test .taken) (l .loop .inv .2), omega arith, omega arith)
-
-mul-edges-3 : tie.Need-mul-edges-3 Inv-loop μ-loop
-mul-edges-3 c = search needs
-
-slice-write-edges-2 : tie.Need-slice-write-edges-2 Inv-loop μ-loop
-slice-write-edges-2 c = search needs
 
 same-length : tie.Need-same-length Inv-loop μ-loop
 same-length c = simp length-set (omega arith)
@@ -62,15 +35,15 @@ insert-spec =
     Inv-loop
     μ-loop
     loop-holds
-    sub-edges
-    mul-edges
-    slice-read-edges
-    mul-edges-2
-    slice-write-edges
-    sub-i
-    loop-less
+    (λ c. search needs)
+    (λ c. search needs)
+    (λ c. search needs)
+    (λ c. search needs)
+    (λ c. search needs)
+    (λ c. search needs)
+    (λ c. search needs)
     loop-again
-    mul-edges-3
-    slice-write-edges-2
+    (λ c. search needs)
+    (λ c. search needs)
     same-length
     returns)

@@ -15,43 +15,13 @@ Inv-loop edges₀ n at edge i₀ last edges i = Mixed (without edges₀ edge) ed
 abbrev μ-loop : tie.MeasureT-loop
 μ-loop edges₀ n at edge i₀ last edges i = last - i
 
-sub-last : tie.Need-sub-last Inv-loop μ-loop
-sub-last c = search needs
-
 loop-holds : tie.Need-loop-holds Inv-loop μ-loop
 loop-holds c = (remove-start (c .pre), omega arith, c .pre .inside, holds-within (c .pre .holds))
-
-add-edges : tie.Need-add-edges Inv-loop μ-loop
-add-edges c = search needs
-
-mul-edges : tie.Need-mul-edges Inv-loop μ-loop
-mul-edges c = search needs
-
-slice-read-edges : tie.Need-slice-read-edges Inv-loop μ-loop
-slice-read-edges c = search needs
-
-mul-edges-2 : tie.Need-mul-edges-2 Inv-loop μ-loop
-mul-edges-2 c = search needs
-
-slice-write-edges : tie.Need-slice-write-edges Inv-loop μ-loop
-slice-write-edges c = search needs
-
-add-i : tie.Need-add-i Inv-loop μ-loop
-add-i c = search needs
-
-loop-less : tie.Need-loop-less Inv-loop μ-loop
-loop-less c = search needs
 
 loop-again : tie.Need-loop-again Inv-loop μ-loop
 loop-again c =
     let l = c .before .before in
     (remove-turn (l .before .pre) (l .loop .inv .0) (l .loop .inv .1) (c .before .loop-test .taken), omega arith, omega arith, l .loop .inv .3)
-
-mul-edges-3 : tie.Need-mul-edges-3 Inv-loop μ-loop
-mul-edges-3 c = search needs
-
-slice-write-edges-2 : tie.Need-slice-write-edges-2 Inv-loop μ-loop
-slice-write-edges-2 c = search needs
 
 same-length : tie.Need-same-length Inv-loop μ-loop
 same-length c = simp length-set (c .before .loop .inv .0 .size)
@@ -65,17 +35,17 @@ remove-spec =
     (tie.spec
     Inv-loop
     μ-loop
-    sub-last
+    (λ c. search needs)
     loop-holds
-    add-edges
-    mul-edges
-    slice-read-edges
-    mul-edges-2
-    slice-write-edges
-    add-i
-    loop-less
+    (λ c. search needs)
+    (λ c. search needs)
+    (λ c. search needs)
+    (λ c. search needs)
+    (λ c. search needs)
+    (λ c. search needs)
+    (λ c. search needs)
     loop-again
-    mul-edges-3
-    slice-write-edges-2
+    (λ c. search needs)
+    (λ c. search needs)
     same-length
     returns)

@@ -26,27 +26,6 @@ returns c = sym (scan-long _ _ (c .if1 .taken))
 loop-holds : tie.Need-loop-holds Inv-loop μ-loop
 loop-holds c = (omega arith, scan-start _ _ (c .if1 .left))
 
-mul-x : tie.Need-mul-x Inv-loop μ-loop
-mul-x c = search needs
-
-shared-slice-read-x : tie.Need-shared-slice-read-x Inv-loop μ-loop
-shared-slice-read-x c = search needs
-
-mul-all-zero-u32 : tie.Need-mul-all-zero-u32 Inv-loop μ-loop
-mul-all-zero-u32 c = search needs
-
-sub-all-zero-u32 : tie.Need-sub-all-zero-u32 Inv-loop μ-loop
-sub-all-zero-u32 c = search needs
-
-part-all-zero-u32-start : tie.Need-part-all-zero-u32-start Inv-loop μ-loop
-part-all-zero-u32-start c = search needs
-
-part-all-zero-u32-end : tie.Need-part-all-zero-u32-end Inv-loop μ-loop
-part-all-zero-u32-end c = search needs
-
-all-zero-u32-requires : tie.Need-all-zero-u32-requires Inv-loop μ-loop
-all-zero-u32-requires c κs = search needs
-
 -- slot i is read
 module _ (at : tie.After-shared-slice-known2 Inv-loop μ-loop) where
   abbrev i : ℕ
@@ -79,15 +58,6 @@ returns-2 c = rest (c .before .before .before .before) true (omega (arith, c .be
 returns-3 : tie.Need-returns-3 Inv-loop μ-loop
 returns-3 c = rest (c .before .before .before .before) false (omega (arith, c .before .before .before .if2 .taken)) (sym (c .before .all-zero-u32 .ensures) ∙ c .if3 .left)
 
-is-edge-requires : tie.Need-is-edge-requires Inv-loop μ-loop
-is-edge-requires c κs = search needs
-
-add-i : tie.Need-add-i Inv-loop μ-loop
-add-i c = search needs
-
-loop-less : tie.Need-loop-less Inv-loop μ-loop
-loop-less c = search needs
-
 loop-again : tie.Need-loop-again Inv-loop μ-loop
 loop-again c = (omega arith, onward (c .before .before .before) true (c .before .before .if2 .left) (sym (c .before .is-edge .ensures) ∙ c .if4 .taken))
 
@@ -108,18 +78,18 @@ scan-spec =
     μ-loop
     returns
     loop-holds
-    mul-x
-    shared-slice-read-x
-    mul-all-zero-u32
-    sub-all-zero-u32
-    part-all-zero-u32-start
-    part-all-zero-u32-end
-    all-zero-u32-requires
+    (λ c. search needs)
+    (λ c. search needs)
+    (λ c. search needs)
+    (λ c. search needs)
+    (λ c. search needs)
+    (λ c. search needs)
+    (λ c κs. search needs)
     returns-2
     returns-3
-    is-edge-requires
-    add-i
-    loop-less
+    (λ c κs. search needs)
+    (λ c. search needs)
+    (λ c. search needs)
     loop-again
     returns-4
     returns-5)

@@ -18,12 +18,6 @@ start c = c .before .before .before .before .before .before .before
 layout : (c : tie.After-known-told) → LayoutPasses (start c .args .vertices) (start c .args .longest) (start c .args .edges .now) (c .before .layout .given .0 .0)
 layout c = rw (c .before .layout .given .1) at (c .before .before .before .check-layout .ensures)
 
-check-layout-requires : tie.Need-check-layout-requires
-check-layout-requires c κs = search needs
-
-enum-known-layout : tie.Need-enum-known-layout
-enum-known-layout c = search needs
-
 enum-told : tie.Need-enum-told
 enum-told c = search needs
 
@@ -34,12 +28,6 @@ returns c = rw (c .enum-told .given .1) (layout-stop _ _ _ _ (c .enum-told .give
 returns-2 : tie.Need-returns-2
 unfolding searchRefusal
 returns-2 c = layout-pass (layout (c .before)) (stop (lt-leb _ _ (c .if1 .taken)))
-
-are-vertices-requires : tie.Need-are-vertices-requires
-are-vertices-requires c κs = search needs
-
-is-keyed-requires : tie.Need-is-keyed-requires
-is-keyed-requires c κs = search needs
 
 returns-3 : tie.Need-returns-3
 unfolding searchRefusal
@@ -77,13 +65,13 @@ pub check-spec : {M : Type 1} → statement M
 check-spec =
     tie.close
     (tie.spec
-    check-layout-requires
-    enum-known-layout
+    (λ c κs. search needs)
+    (λ c. search needs)
     enum-told
     returns
     returns-2
-    are-vertices-requires
-    is-keyed-requires
+    (λ c κs. search needs)
+    (λ c κs. search needs)
     returns-3
     returns-4
     returns-5)

@@ -20,17 +20,8 @@ position c =
     let short = c .before .before .before .before .before .pre .1 .1 .0 in
     omega (arith, mod-lt (c .before .before .before .before .before .args .x / 256 + 1) (short .least), short .most)
 
-shared-slice-read-label : tie.Need-shared-slice-read-label
-shared-slice-read-label c = search needs
-
 cast-label : tie.Need-cast-label
 cast-label c = omega (arith, label c)
-
-cast-key : tie.Need-cast-key
-cast-key c = search needs
-
-mul-key : tie.Need-mul-key
-mul-key c = search needs
 
 mul-key-2 : tie.Need-mul-key-2
 mul-key-2 c = omega (arith, label c)
@@ -38,20 +29,8 @@ mul-key-2 c = omega (arith, label c)
 add-key : tie.Need-add-key
 add-key c = omega (arith, label c)
 
-add-base : tie.Need-add-base
-add-base c = search needs
-
-rem-base : tie.Need-rem-base
-rem-base c = search needs
-
 mul-base : tie.Need-mul-base
 mul-base c = omega (arith, position c)
-
-mul-spread : tie.Need-mul-spread
-mul-spread c = search needs
-
-shared-slice-read-spread : tie.Need-shared-slice-read-spread
-shared-slice-read-spread c = search needs
 
 spread-requires : tie.Need-spread-requires
 spread-requires c κs =
@@ -62,9 +41,6 @@ spread-requires c κs =
       (start .pre .1 .0, (omega arith, omega arith)),
     )
 
-same-length : tie.Need-same-length
-same-length c = search needs
-
 returns : tie.Need-returns
 returns c = grown-as (c .before .before .spread .ensures) (ahead-leads _ _ _) (leads-ahead _ _ _)
 
@@ -72,17 +48,17 @@ pub expand-spec : {M : Type 1} → statement M
 expand-spec =
     tie.close
     (tie.spec
-    shared-slice-read-label
+    (λ c. search needs)
     cast-label
-    cast-key
-    mul-key
+    (λ c. search needs)
+    (λ c. search needs)
     mul-key-2
     add-key
-    add-base
-    rem-base
+    (λ c. search needs)
+    (λ c. search needs)
     mul-base
-    mul-spread
-    shared-slice-read-spread
+    (λ c. search needs)
+    (λ c. search needs)
     spread-requires
-    same-length
+    (λ c. search needs)
     returns)

@@ -26,9 +26,6 @@ loop-holds c =
     let p = start .pre .0 in
     (built-start _ _ _ _ _ _ (rw (start .pre .1 .1) (stands-start _ _ _ _ _ (omega (arith, p .start, p .vertices-small)) (p .short) (start .pre .1 .0))), refl)
 
-slice-aggregate-next-level : tie.Need-slice-aggregate-next-level Inv-loop μ-loop
-slice-aggregate-next-level c = search needs
-
 next-level-requires : tie.Need-next-level-requires Inv-loop μ-loop
 next-level-requires c κs =
     let at = c .before .before .before in
@@ -99,7 +96,7 @@ levels-spec =
     first-slots-requires
     slice-write-work
     loop-holds
-    slice-aggregate-next-level
+    (λ c. search needs)
     next-level-requires
     add-c
     mul-if1

@@ -12,20 +12,8 @@ use Rattle.level_search.proofs.reach.Tie as tie
 left : (c : tie.Else1) → c .before .before .args .tail ≤ mostStates
 left c = room-left _ _ _ (c .before .before .pre .0) (c .before .before .pre .1) (c .if1 .left)
 
-mul-if1 : tie.Need-mul-if1
-mul-if1 c = search needs
-
-slice-read-if1 : tie.Need-slice-read-if1
-slice-read-if1 c = search needs
-
 returns : tie.Need-returns
 returns c = grown-old _ _ (c .before .before .args .y) (c .if1 .taken)
-
-mul-work : tie.Need-mul-work
-mul-work c = search needs
-
-slice-write-work : tie.Need-slice-write-work
-slice-write-work c = search needs
 
 add-work : tie.Need-add-work
 add-work c = omega (arith, left c)
@@ -39,9 +27,6 @@ slice-write-work-2 c = simp length-set (omega (arith, left c))
 add-result : tie.Need-add-result
 add-result c = omega (arith, left c)
 
-same-length : tie.Need-same-length
-same-length c = search needs
-
 returns-2 : tie.Need-returns-2
 returns-2 c = grown-new _ _ _ (c .before .before .pre .0) (c .before .before .pre .1) (c .if1 .left)
 
@@ -49,14 +34,14 @@ pub reach-spec : {M : Type 1} → statement M
 reach-spec =
     tie.close
     (tie.spec
-    mul-if1
-    slice-read-if1
+    (λ c. search needs)
+    (λ c. search needs)
     returns
-    mul-work
-    slice-write-work
+    (λ c. search needs)
+    (λ c. search needs)
     add-work
     mul-work-2
     slice-write-work-2
     add-result
-    same-length
+    (λ c. search needs)
     returns-2)

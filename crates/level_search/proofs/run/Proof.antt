@@ -10,17 +10,8 @@ use borrow.Author.Needs.{needs}
 use Rattle.level_search.proofs.run.Statement.{statement}
 use Rattle.level_search.proofs.run.Tie as tie
 
-slice-relend-prefix-clear-u64 : tie.Need-slice-relend-prefix-clear-u64
-slice-relend-prefix-clear-u64 c = search needs
-
 slice-aggregate-clear-u64 : tie.Need-slice-aggregate-clear-u64
 slice-aggregate-clear-u64 c = sym (length-take-le leastWork (c .before .before .before .before .args .work .now) (c .before .before .before .before .pre .1))
-
-clear-u64-requires : tie.Need-clear-u64-requires
-clear-u64-requires c κs = search needs
-
-slice-relend-prefix-levels : tie.Need-slice-relend-prefix-levels
-slice-relend-prefix-levels c = search needs
 
 slice-aggregate-levels : tie.Need-slice-aggregate-levels
 slice-aggregate-levels c = sym (front-length (c .before .before .before .before .before .before .before .before .args .work .now) _ (c .before .before .before .before .before .before .before .before .pre .1) (c .before .before .before .clear-u64 .ensures))
@@ -30,12 +21,6 @@ levels-requires c κs =
     let start = c .before .before .before .before .before .before .before .before in
     let cleared = c .before .before .before .clear-u64 .ensures in
     (start .pre .0, (le-of-eq (sym (front-length (start .args .work .now) _ (start .pre .1) cleared)), front-zero (start .args .work .now) _ (start .pre .1) cleared))
-
-clear-u64-requires-2 : tie.Need-clear-u64-requires-2
-clear-u64-requires-2 c κs = search needs
-
-same-length : tie.Need-same-length
-same-length c = search needs
 
 returns : tie.Need-returns
 returns c =
@@ -53,12 +38,12 @@ pub run-spec : {M : Type 1} → statement M
 run-spec =
     tie.close
     (tie.spec
-    slice-relend-prefix-clear-u64
+    (λ c. search needs)
     slice-aggregate-clear-u64
-    clear-u64-requires
-    slice-relend-prefix-levels
+    (λ c κs. search needs)
+    (λ c. search needs)
     slice-aggregate-levels
     levels-requires
-    clear-u64-requires-2
-    same-length
+    (λ c κs. search needs)
+    (λ c. search needs)
     returns)

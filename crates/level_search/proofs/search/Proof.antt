@@ -18,18 +18,6 @@ passed : (c : tie.After-minimum-repeat)
     (start c .args .pattern .now) (lent (start c .args .edges .now) [] (start c .args .work .now)) (c .before .before .checked2 .given .0 .0)
 passed c = rw (c .before .before .checked2 .given .1) at (c .before .before .before .before .check .ensures)
 
-check-requires : tie.Need-check-requires
-check-requires c κs = search needs
-
-enum-known-checked : tie.Need-enum-known-checked
-enum-known-checked c = search needs
-
-enum-known-checked-2 : tie.Need-enum-known-checked-2
-enum-known-checked-2 c = search needs
-
-minimum-repeat-requires : tie.Need-minimum-repeat-requires
-minimum-repeat-requires c κs = search needs
-
 slice-aggregate-run : tie.Need-slice-aggregate-run
 slice-aggregate-run c = sym (length-take-le _ (c .before .before .before .before .before .before .before .before .before .before .args .edges .now) (part-edges (passed (c .before)) _ (c .before .minimum-repeat .ensures)))
 
@@ -39,14 +27,8 @@ slice-aggregate-run-2 c = sym (length-take-le _ (c .before .before .before .befo
 run-requires : tie.Need-run-requires
 run-requires c κs = (searchable (passed (c .before .before .before)) _ (c .before .before .before .minimum-repeat .ensures), passed (c .before .before .before) .room)
 
-same-length : tie.Need-same-length
-same-length c = search needs
-
 returns : tie.Need-returns
 returns c = search-refused _ _ _ _ _ _ (c .before .checked .given .0 .0) (rw (c .before .checked .given .1) at (c .before .before .before .check .ensures))
-
-same-length-2 : tie.Need-same-length-2
-same-length-2 c = search needs
 
 returns-2 : tie.Need-returns-2
 returns-2 c = meets (passed (c .before .before .before .before .before .before)) _ (c .before .before .before .before .before .before .minimum-repeat .ensures) (c .before .before .run .ensures)
@@ -55,14 +37,14 @@ pub search-spec : {M : Type 1} → statement M
 search-spec =
     tie.close
     (tie.spec
-    check-requires
-    enum-known-checked
-    enum-known-checked-2
-    minimum-repeat-requires
+    (λ c κs. search needs)
+    (λ c. search needs)
+    (λ c. search needs)
+    (λ c κs. search needs)
     slice-aggregate-run
     slice-aggregate-run-2
     run-requires
-    same-length
+    (λ c. search needs)
     returns
-    same-length-2
+    (λ c. search needs)
     returns-2)

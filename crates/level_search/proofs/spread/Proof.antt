@@ -23,20 +23,11 @@ least c h = skipped-least (c .before .before .before .before .pre .0 .0) (c .bef
 reached : (c : tie.Else1 Inv-loop μ-loop) → (c .before .before .before .before .before .before .before .args .key ≤ getD (c .before .before .before .before .before .before .before .args .edges .now) (c .before .before .before .loop .i) 0) × (getD (c .before .before .before .before .before .before .before .args .edges .now) (c .before .before .before .loop .i) 0 < c .before .before .before .before .before .before .before .args .key + 256)
 reached c = (least (c .before .before .before) (c .before .before .loop-test .taken), c .if1 .left)
 
-add-end : tie.Need-add-end Inv-loop μ-loop
-add-end c = omega arith
-
 skip-requires : tie.Need-skip-requires Inv-loop μ-loop
 skip-requires c κs = c .before .before .pre .0 .1
 
 loop-holds : tie.Need-loop-holds Inv-loop μ-loop
 loop-holds c = (c .skip .ensures .under .most, (le-refl _, run-none _ _ _ (c .skip .ensures .under) _ _))
-
-mul-edge : tie.Need-mul-edge Inv-loop μ-loop
-mul-edge c = omega arith
-
-shared-slice-read-edge : tie.Need-shared-slice-read-edge Inv-loop μ-loop
-shared-slice-read-edge c = omega arith
 
 same-length : tie.Need-same-length Inv-loop μ-loop
 same-length c = c .before .before .before .loop .inv .1 .1 .len
@@ -56,12 +47,6 @@ add-reach c = omega (arith, reached (c .before))
 
 reach-requires : tie.Need-reach-requires Inv-loop μ-loop
 reach-requires c κs = (c .before .before .before .before .loop .inv .1 .1 .room (c .before .before .before .before .before .before .before .before .pre .1 .0), omega (arith, reached (c .before), c .before .before .before .before .before .before .before .before .pre))
-
-add-i : tie.Need-add-i Inv-loop μ-loop
-add-i c = omega arith
-
-loop-less : tie.Need-loop-less Inv-loop μ-loop
-loop-less c = omega arith
 
 loop-again : tie.Need-loop-again Inv-loop μ-loop
 loop-again c = (
@@ -85,19 +70,19 @@ spread-spec =
     (tie.spec
     Inv-loop
     μ-loop
-    add-end
+    (λ c. omega arith)
     skip-requires
     loop-holds
-    mul-edge
-    shared-slice-read-edge
+    (λ c. omega arith)
+    (λ c. omega arith)
     same-length
     returns
     sub-reach
     cast-reach
     add-reach
     reach-requires
-    add-i
-    loop-less
+    (λ c. omega arith)
+    (λ c. omega arith)
     loop-again
     same-length-2
     returns-2)

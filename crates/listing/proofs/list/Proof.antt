@@ -33,41 +33,8 @@ few c =
 within : (c : tie.After-standing-u64) → c .standing-u64 .result ≤ length (read (c .before .before) .read-card .last .1 .1 .0)
 within c = omega (arith, c .standing-u64 .ensures, standing-within (read (c .before .before) .read-card .last .1 .1 .0))
 
-slice-aggregate-read-card : tie.Need-slice-aggregate-read-card
-slice-aggregate-read-card c = search needs
-
-slice-aggregate-read-card-2 : tie.Need-slice-aggregate-read-card-2
-slice-aggregate-read-card-2 c = search needs
-
-slice-aggregate-read-card-3 : tie.Need-slice-aggregate-read-card-3
-slice-aggregate-read-card-3 c = search needs
-
-read-card-requires : tie.Need-read-card-requires
-read-card-requires c κs = search needs
-
-enum-known-answer : tie.Need-enum-known-answer
-enum-known-answer c = search needs
-
-refusal-number-requires : tie.Need-refusal-number-requires
-refusal-number-requires c κs = search needs
-
-put-refused-requires : tie.Need-put-refused-requires
-put-refused-requires c κs = search needs
-
 enum-told : tie.Need-enum-told
 enum-told c = search needs
-
-slice-aggregate-standing-u32 : tie.Need-slice-aggregate-standing-u32
-slice-aggregate-standing-u32 c = search needs
-
-standing-u32-requires : tie.Need-standing-u32-requires
-standing-u32-requires c κs = search needs
-
-slice-aggregate-standing-u64 : tie.Need-slice-aggregate-standing-u64
-slice-aggregate-standing-u64 c = search needs
-
-standing-u64-requires : tie.Need-standing-u64-requires
-standing-u64-requires c κs = search needs
 
 cast-put-listing : tie.Need-cast-put-listing
 cast-put-listing c = omega (arith, few (c .before))
@@ -85,17 +52,11 @@ put-listing-requires c κs =
     let n = length-take-le (entries .standing-u64 .result) (card .read-card .last .1 .1 .0) (within entries) in
     (omega (arith, n, few entries), omega (arith, n, few entries, start card .pre))
 
-same-length : tie.Need-same-length
-same-length c = search needs
-
 returns : tie.Need-returns
 returns c =
     let number = c .before .before .before in
     let answer = number .before .before .before in
     puts-refused _ (refused answer .read-card .ensures) (answer .answer .given .1) (number .refusal-number .ensures) (c .before .before .put-refused .ensures)
-
-same-length-2 : tie.Need-same-length-2
-same-length-2 c = search needs
 
 returns-2 : tie.Need-returns-2
 returns-2 c =
@@ -109,23 +70,23 @@ pub list-spec : {M : Type 1} → statement M
 list-spec =
     tie.close
     (tie.spec
-    slice-aggregate-read-card
-    slice-aggregate-read-card-2
-    slice-aggregate-read-card-3
-    read-card-requires
-    enum-known-answer
-    refusal-number-requires
-    put-refused-requires
+    (λ c. search needs)
+    (λ c. search needs)
+    (λ c. search needs)
+    (λ c κs. search needs)
+    (λ c. search needs)
+    (λ c κs. search needs)
+    (λ c κs. search needs)
     enum-told
-    slice-aggregate-standing-u32
-    standing-u32-requires
-    slice-aggregate-standing-u64
-    standing-u64-requires
+    (λ c. search needs)
+    (λ c κs. search needs)
+    (λ c. search needs)
+    (λ c κs. search needs)
     cast-put-listing
     array-share-prefix-index
     slice-aggregate-put-listing
     put-listing-requires
-    same-length
+    (λ c. search needs)
     returns
-    same-length-2
+    (λ c. search needs)
     returns-2)

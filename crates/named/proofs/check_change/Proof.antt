@@ -15,27 +15,12 @@ start c = c .before .before .before .before .before .before .before
 layout : (c : tie.After-known-told) → LayoutPasses (start c .args .vertices) (start c .args .longest) (start c .args .edges .now) (c .before .layout .given .0 .0)
 layout c = rw (c .before .layout .given .1) at (c .before .before .before .check-layout .ensures)
 
-check-layout-requires : tie.Need-check-layout-requires
-check-layout-requires c κs = search needs
-
-enum-known-layout : tie.Need-enum-known-layout
-enum-known-layout c = search needs
-
 enum-told : tie.Need-enum-told
 enum-told c = search needs
 
 returns : tie.Need-returns
 unfolding changeRefusal
 returns c = rw (c .enum-told .given .1) (layout-stop _ _ _ _ (c .enum-told .given .0 .0) (rw (c .enum-told .given .1) at (c .before .before .check-layout .ensures)))
-
-has-room-requires : tie.Need-has-room-requires
-has-room-requires c κs = search needs
-
-are-vertices-requires : tie.Need-are-vertices-requires
-are-vertices-requires c κs = search needs
-
-is-label-requires : tie.Need-is-label-requires
-is-label-requires c κs = search needs
 
 returns-2 : tie.Need-returns-2
 unfolding changeRefusal
@@ -73,13 +58,13 @@ pub check-change-spec : {M : Type 1} → statement M
 check-change-spec =
     tie.close
     (tie.spec
-    check-layout-requires
-    enum-known-layout
+    (λ c κs. search needs)
+    (λ c. search needs)
     enum-told
     returns
-    has-room-requires
-    are-vertices-requires
-    is-label-requires
+    (λ c κs. search needs)
+    (λ c κs. search needs)
+    (λ c κs. search needs)
     returns-2
     returns-3
     returns-4

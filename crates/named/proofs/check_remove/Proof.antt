@@ -4,17 +4,8 @@ use borrow.Author.Needs.{needs}
 use Rattle.named.proofs.check_remove.Statement.{statement}
 use Rattle.named.proofs.check_remove.Tie as tie
 
-look-up-requires : tie.Need-look-up-requires
-look-up-requires c κs = search needs
-
-enum-known-lookup : tie.Need-enum-known-lookup
-enum-known-lookup c = search needs
-
 enum-told : tie.Need-enum-told
 enum-told c = search needs
-
-enum-known-lookup-2 : tie.Need-enum-known-lookup-2
-enum-known-lookup-2 c = search needs
 
 returns : tie.Need-returns
 returns c = remove-stops _ _ _ _ _ (c .before .lookup .given .0 .0) (rw (c .before .lookup .given .1) at (c .before .before .before .look-up .ensures))
@@ -29,10 +20,10 @@ pub check-remove-spec : {M : Type 1} → statement M
 check-remove-spec =
     tie.close
     (tie.spec
-    look-up-requires
-    enum-known-lookup
+    (λ c κs. search needs)
+    (λ c. search needs)
     enum-told
-    enum-known-lookup-2
+    (λ c. search needs)
     returns
     returns-2
     returns-3)

@@ -33,26 +33,11 @@ looked c =
       is = sym (c .find .ensures ∙ ap (λ (x : ℕ). findOf x (take (k .before .standing2 .given .0 .0) (start k .args .edges .now))) (c .before .edge-number .ensures));
     }
 
-check-change-requires : tie.Need-check-change-requires
-check-change-requires c κs = search needs
-
-enum-known-standing : tie.Need-enum-known-standing
-enum-known-standing c = search needs
-
-enum-known-standing-2 : tie.Need-enum-known-standing-2
-enum-known-standing-2 c = search needs
-
 edge-number-requires : tie.Need-edge-number-requires
 edge-number-requires c κs = numbered (passed c)
 
 find-requires : tie.Need-find-requires
 find-requires c κs = searchable (passed (c .before))
-
-enum-known-found : tie.Need-enum-known-found
-enum-known-found c = search needs
-
-enum-known-found-2 : tie.Need-enum-known-found-2
-enum-known-found-2 c = search needs
 
 returns : tie.Need-returns
 returns c = rw (c .before .standing .given .1) at (c .before .before .before .check-change .ensures)
@@ -67,13 +52,13 @@ pub look-up-spec : {M : Type 1} → statement M
 look-up-spec =
     tie.close
     (tie.spec
-    check-change-requires
-    enum-known-standing
-    enum-known-standing-2
+    (λ c κs. search needs)
+    (λ c. search needs)
+    (λ c. search needs)
     edge-number-requires
     find-requires
-    enum-known-found
-    enum-known-found-2
+    (λ c. search needs)
+    (λ c. search needs)
     returns
     returns-2
     returns-3)

@@ -18,30 +18,12 @@ abbrev μ-loop : tie.MeasureT-loop
 loop-holds : tie.Need-loop-holds Inv-loop μ-loop
 loop-holds c = map-start _ _
 
-mul-x : tie.Need-mul-x Inv-loop μ-loop
-mul-x c = search needs
-
-slice-read-x : tie.Need-slice-read-x Inv-loop μ-loop
-slice-read-x c = search needs
-
 put-one-requires : tie.Need-put-one-requires Inv-loop μ-loop
 put-one-requires c κs =
     let l = c .before .before in
     let pre = l .before .before .before .pre in
     let h = waits _ (l .loop .inv) (c .before .loop-test .taken) in
     (pre .sides _ h, (pre .owners _ h, pre .hubs _ h))
-
-mul-staged : tie.Need-mul-staged Inv-loop μ-loop
-mul-staged c = search needs
-
-slice-write-staged : tie.Need-slice-write-staged Inv-loop μ-loop
-slice-write-staged c = search needs
-
-add-i : tie.Need-add-i Inv-loop μ-loop
-add-i c = search needs
-
-loop-less : tie.Need-loop-less Inv-loop μ-loop
-loop-less c = search needs
 
 loop-again : tie.Need-loop-again Inv-loop μ-loop
 loop-again c = map-turn _ (c .before .before .before .loop .inv) (c .before .before .loop-test .taken) (c .put-one .ensures)
@@ -59,13 +41,13 @@ put-back-spec =
     Inv-loop
     μ-loop
     loop-holds
-    mul-x
-    slice-read-x
+    (λ c. search needs)
+    (λ c. search needs)
     put-one-requires
-    mul-staged
-    slice-write-staged
-    add-i
-    loop-less
+    (λ c. search needs)
+    (λ c. search needs)
+    (λ c. search needs)
+    (λ c. search needs)
     loop-again
     same-length
     returns)

@@ -15,20 +15,11 @@ bytes c =
     let x = c .before .args .x in
     (omega (arith, c .shared-slice-known .given (ownerOf x)), omega (arith, c .shared-slice-known .given (hubOf x)))
 
-shared-slice-read-owner : tie.Need-shared-slice-read-owner
-shared-slice-read-owner c = search needs
-
 cast-owner : tie.Need-cast-owner
 cast-owner c = omega (arith, bytes c)
 
-shared-slice-read-hub : tie.Need-shared-slice-read-hub
-shared-slice-read-hub c = search needs
-
 cast-hub : tie.Need-cast-hub
 cast-hub c = omega (arith, bytes (c .before))
-
-mul-result : tie.Need-mul-result
-mul-result c = search needs
 
 mul-result-2 : tie.Need-mul-result-2
 mul-result-2 c = omega (arith, bytes (c .before))
@@ -45,21 +36,18 @@ add-result-2 c = omega (arith, bytes (c .before))
 add-result-3 : tie.Need-add-result-3
 add-result-3 c = omega (arith, bytes (c .before))
 
-returns : tie.Need-returns
-returns c = search needs
-
 pub put-one-spec : {M : Type 1} → statement M
 put-one-spec =
     tie.close
     (tie.spec
-    shared-slice-read-owner
+    (λ c. search needs)
     cast-owner
-    shared-slice-read-hub
+    (λ c. search needs)
     cast-hub
-    mul-result
+    (λ c. search needs)
     mul-result-2
     add-result
     mul-result-3
     add-result-2
     add-result-3
-    returns)
+    (λ c. search needs))

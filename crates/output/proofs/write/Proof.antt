@@ -17,12 +17,6 @@ start c = c .before .before .before .before .before
 front : (c : tie.After-put-back) → length (take (length (c .put-back .last .1 .0)) (start c .args .index .now)) ≡ length (c .put-back .last .1 .0)
 front c = length-take-le _ (start c .args .index .now) (omega (arith, c .put-back .kept .1 .0, start c .pre .fits))
 
-put-back-requires : tie.Need-put-back-requires
-put-back-requires c κs = search needs
-
-slice-relend-prefix-sort : tie.Need-slice-relend-prefix-sort
-slice-relend-prefix-sort c = search needs
-
 slice-aggregate-sort : tie.Need-slice-aggregate-sort
 slice-aggregate-sort c = sym (front (c .before .before .before .before))
 
@@ -31,27 +25,6 @@ sort-requires c κs =
     let back = c .before .before .before .before in
     let e = sym (back .put-back .ensures) in
     (sym (front back), (subst Distinct e (start back .pre .distinct), subst FiveBytes e (start back .pre .narrow)))
-
-mul-clear-u64 : tie.Need-mul-clear-u64
-mul-clear-u64 c = search needs
-
-sub-clear-u64 : tie.Need-sub-clear-u64
-sub-clear-u64 c = search needs
-
-part-clear-u64-start : tie.Need-part-clear-u64-start
-part-clear-u64-start c = search needs
-
-part-clear-u64-end : tie.Need-part-clear-u64-end
-part-clear-u64-end c = search needs
-
-clear-u64-requires : tie.Need-clear-u64-requires
-clear-u64-requires c κs = search needs
-
-same-length : tie.Need-same-length
-same-length c = search needs
-
-same-length-2 : tie.Need-same-length-2
-same-length-2 c = search needs
 
 returns : tie.Need-returns
 returns c =
@@ -63,15 +36,15 @@ pub write-spec : {M : Type 1} → statement M
 write-spec =
     tie.close
     (tie.spec
-    put-back-requires
-    slice-relend-prefix-sort
+    (λ c κs. search needs)
+    (λ c. search needs)
     slice-aggregate-sort
     sort-requires
-    mul-clear-u64
-    sub-clear-u64
-    part-clear-u64-start
-    part-clear-u64-end
-    clear-u64-requires
-    same-length
-    same-length-2
+    (λ c. search needs)
+    (λ c. search needs)
+    (λ c. search needs)
+    (λ c. search needs)
+    (λ c κs. search needs)
+    (λ c. search needs)
+    (λ c. search needs)
     returns)

@@ -23,9 +23,6 @@ clear-requires c κs =
     let turn = c .before .before in
     omega (arith, turn .before .before .before .before .pre, turn .loop .inv .keeps .len)
 
-add-next : tie.Need-add-next Inv-loop μ-loop
-add-next c = omega arith
-
 next-requires-2 : tie.Need-next-requires-2 Inv-loop μ-loop
 next-requires-2 c κs =
     let turn = c .before .before .before .before .before .before in
@@ -54,7 +51,7 @@ clear-steps-spec =
     next-requires
     loop-holds
     clear-requires
-    add-next
+    (λ c. omega arith)
     next-requires-2
     loop-less
     loop-again

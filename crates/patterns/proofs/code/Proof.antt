@@ -42,20 +42,11 @@ loop-holds c = (omega arith, refl)
 mul-digits : tie.Need-mul-digits Inv-loop μ-loop
 mul-digits c = omega (arith, small c)
 
-shared-slice-read-digits : tie.Need-shared-slice-read-digits Inv-loop μ-loop
-shared-slice-read-digits c = search needs
-
 cast-digits : tie.Need-cast-digits Inv-loop μ-loop
 cast-digits c = omega (arith, small (c .before))
 
 add-digits : tie.Need-add-digits Inv-loop μ-loop
 add-digits c = omega (arith, small (c .before))
-
-add-i : tie.Need-add-i Inv-loop μ-loop
-add-i c = omega arith
-
-loop-less : tie.Need-loop-less Inv-loop μ-loop
-loop-less c = omega arith
 
 loop-again : tie.Need-loop-again Inv-loop μ-loop
 loop-again c = (omega arith, turn (c .before))
@@ -71,10 +62,10 @@ code-spec =
     μ-loop
     loop-holds
     mul-digits
-    shared-slice-read-digits
+    (λ c. search needs)
     cast-digits
     add-digits
-    add-i
-    loop-less
+    (λ c. omega arith)
+    (λ c. omega arith)
     loop-again
     returns)

@@ -23,20 +23,11 @@ returns-2 c = keyed-not _ _ (λ k. omega (arith, k .short))
 loop-holds : tie.Need-loop-holds Inv-loop μ-loop
 loop-holds c = below-none
 
-shared-slice-read-label : tie.Need-shared-slice-read-label Inv-loop μ-loop
-shared-slice-read-label c = search needs
-
 returns-3 : tie.Need-returns-3 Inv-loop μ-loop
 returns-3 c = unlabelled _ _ (c .before .before .loop-test .taken) (λ l. omega (arith, l))
 
 returns-4 : tie.Need-returns-4 Inv-loop μ-loop
 returns-4 c = unlabelled _ _ (c .before .before .before .loop-test .taken) (λ l. omega (arith, l))
-
-add-i : tie.Need-add-i Inv-loop μ-loop
-add-i c = omega arith
-
-loop-less : tie.Need-loop-less Inv-loop μ-loop
-loop-less c = omega arith
 
 loop-again : tie.Need-loop-again Inv-loop μ-loop
 loop-again c = below-more (c .before .before .before .before .loop .inv) (omega arith, omega arith)
@@ -53,10 +44,10 @@ is-keyed-spec =
     returns
     returns-2
     loop-holds
-    shared-slice-read-label
+    (λ c. search needs)
     returns-3
     returns-4
-    add-i
-    loop-less
+    (λ c. omega arith)
+    (λ c. omega arith)
     loop-again
     returns-5)

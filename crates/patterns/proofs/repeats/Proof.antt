@@ -15,34 +15,16 @@ Inv-loop pattern d i₀ i = (d ≤ i) × Below (Back pattern d) i
 abbrev μ-loop : tie.MeasureT-loop
 μ-loop pattern d i₀ i = length pattern - i
 
-rem-if1 : tie.Need-rem-if1 Inv-loop μ-loop
-rem-if1 c = search needs
-
 returns : tie.Need-returns Inv-loop μ-loop
 returns c = repeats-part _ _ (c .before .pre) (c .if1 .taken)
 
 loop-holds : tie.Need-loop-holds Inv-loop μ-loop
 loop-holds c = (omega arith, record { at = λ j h k. absurd (omega arith) })
 
-shared-slice-read-if2 : tie.Need-shared-slice-read-if2 Inv-loop μ-loop
-shared-slice-read-if2 c = search needs
-
-sub-if2 : tie.Need-sub-if2 Inv-loop μ-loop
-sub-if2 c = omega arith
-
-shared-slice-read-if2-2 : tie.Need-shared-slice-read-if2-2 Inv-loop μ-loop
-shared-slice-read-if2-2 c = omega arith
-
 returns-2 : tie.Need-returns-2 Inv-loop μ-loop
 returns-2 c =
     let t = c .before .before .before in
     repeats-other _ _ (t .before .before .before .pre) (t .before .loop .inv .0) (t .loop-test .taken) (c .if2 .taken)
-
-add-i : tie.Need-add-i Inv-loop μ-loop
-add-i c = omega arith
-
-loop-less : tie.Need-loop-less Inv-loop μ-loop
-loop-less c = omega arith
 
 loop-again : tie.Need-loop-again Inv-loop μ-loop
 loop-again c = (omega arith, below-more (c .before .before .before .before .loop .inv .1) (λ _. c .if2 .left))
@@ -56,14 +38,14 @@ repeats-spec =
     (tie.spec
     Inv-loop
     μ-loop
-    rem-if1
+    (λ c. search needs)
     returns
     loop-holds
-    shared-slice-read-if2
-    sub-if2
-    shared-slice-read-if2-2
+    (λ c. search needs)
+    (λ c. omega arith)
+    (λ c. omega arith)
     returns-2
-    add-i
-    loop-less
+    (λ c. omega arith)
+    (λ c. omega arith)
     loop-again
     returns-3)

@@ -30,32 +30,17 @@ room-labels c =
     let side = hub .before .before .before .before .before in
     omega (arith, c .put-digits .ensures .end, c .put-digits .kept .0, digits-length 16 4 (codeOf (side .before .before .before .args .entry)), room-space blank)
 
-put-side-requires : tie.Need-put-side-requires
-put-side-requires c κs = search needs
-
-slice-aggregate-put-field : tie.Need-slice-aggregate-put-field
-slice-aggregate-put-field c = search needs
-
-cast-put-field : tie.Need-cast-put-field
-cast-put-field c = search needs
-
 put-field-requires : tie.Need-put-field-requires
 put-field-requires c κs = omega (arith, room-side (c .before .before .before .before))
 
 put-requires : tie.Need-put-requires
 put-requires c κs = omega (arith, room-hub (c .before .before .before))
 
-cast-put-digits : tie.Need-cast-put-digits
-cast-put-digits c = search needs
-
 put-digits-requires : tie.Need-put-digits-requires
 put-digits-requires c κs = (omega arith, (omega arith, omega (arith, room-space (c .before .before .before))))
 
 put-requires-2 : tie.Need-put-requires-2
 put-requires-2 c κs = omega (arith, room-labels (c .before .before .before))
-
-same-length : tie.Need-same-length
-same-length c = search needs
 
 returns : tie.Need-returns
 returns c =
@@ -73,13 +58,13 @@ pub put-entry-spec : {M : Type 1} → statement M
 put-entry-spec =
     tie.close
     (tie.spec
-    put-side-requires
-    slice-aggregate-put-field
-    cast-put-field
+    (λ c κs. search needs)
+    (λ c. search needs)
+    (λ c. search needs)
     put-field-requires
     put-requires
-    cast-put-digits
+    (λ c. search needs)
     put-digits-requires
     put-requires-2
-    same-length
+    (λ c. search needs)
     returns)

@@ -31,35 +31,17 @@ room-entries c =
     let places = legs .before .before .before .before .before .before .before .before .before .before in
     omega (arith, c .put-field4 .ensures .end, c .put-field4 .kept .0, field-length entriesWord (places .before .before .before .before .args .entries), room-edges legs)
 
-slice-aggregate-put-field : tie.Need-slice-aggregate-put-field
-slice-aggregate-put-field c = search needs
-
-put-field-requires : tie.Need-put-field-requires
-put-field-requires c κs = search needs
-
-slice-aggregate-put-field-2 : tie.Need-slice-aggregate-put-field-2
-slice-aggregate-put-field-2 c = search needs
-
 put-field-requires-2 : tie.Need-put-field-requires-2
 put-field-requires-2 c κs = omega (arith, room-vertices (c .before .before .before .before))
 
-slice-aggregate-put-field-3 : tie.Need-slice-aggregate-put-field-3
-slice-aggregate-put-field-3 c = search needs
-
 put-field-requires-3 : tie.Need-put-field-requires-3
 put-field-requires-3 c κs = omega (arith, room-longest (c .before .before .before .before))
-
-slice-aggregate-put-field-4 : tie.Need-slice-aggregate-put-field-4
-slice-aggregate-put-field-4 c = search needs
 
 put-field-requires-4 : tie.Need-put-field-requires-4
 put-field-requires-4 c κs = omega (arith, room-edges (c .before .before .before .before))
 
 put-requires : tie.Need-put-requires
 put-requires c κs = omega (arith, room-entries (c .before .before .before))
-
-same-length : tie.Need-same-length
-same-length c = search needs
 
 returns : tie.Need-returns
 returns c =
@@ -79,14 +61,14 @@ pub put-header-spec : {M : Type 1} → statement M
 put-header-spec =
     tie.close
     (tie.spec
-    slice-aggregate-put-field
-    put-field-requires
-    slice-aggregate-put-field-2
+    (λ c. search needs)
+    (λ c κs. search needs)
+    (λ c. search needs)
     put-field-requires-2
-    slice-aggregate-put-field-3
+    (λ c. search needs)
     put-field-requires-3
-    slice-aggregate-put-field-4
+    (λ c. search needs)
     put-field-requires-4
     put-requires
-    same-length
+    (λ c. search needs)
     returns)

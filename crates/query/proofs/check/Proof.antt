@@ -16,24 +16,12 @@ start c = c .before .before .before .before
 header : (c : tie.After-enum-told) → headerRefusal (start c .args .vertices) (start c .args .longest) ≡ 0
 header c = sym (c .before .before .check-header .ensures) ∙ ap answerOf (c .enum-told .given .1)
 
-check-header-requires : tie.Need-check-header-requires
-check-header-requires c κs = search needs
-
-enum-known-header : tie.Need-enum-known-header
-enum-known-header c = search needs
-
 returns : tie.Need-returns
 unfolding earlierRefusal
 returns c = sym (first-is (header-stop _ _ (sym (c .before .before .before .check-header .ensures) ∙ ap answerOf (c .before .header .given .1)) (number-some (c .before .header .given .0 .0))))
 
 enum-told : tie.Need-enum-told
 enum-told c = search needs
-
-are-vertices-requires : tie.Need-are-vertices-requires
-are-vertices-requires c κs = search needs
-
-is-keyed-requires : tie.Need-is-keyed-requires
-is-keyed-requires c κs = search needs
 
 returns-2 : tie.Need-returns-2
 unfolding earlierRefusal
@@ -55,12 +43,12 @@ pub check-spec : {M : Type 1} → statement M
 check-spec =
     tie.close
     (tie.spec
-    check-header-requires
-    enum-known-header
+    (λ c κs. search needs)
+    (λ c. search needs)
     returns
     enum-told
-    are-vertices-requires
-    is-keyed-requires
+    (λ c κs. search needs)
+    (λ c κs. search needs)
     returns-2
     returns-3
     returns-4)

@@ -30,12 +30,6 @@ admitted : (c : tie.After-minimum-repeat)
     → Admitted (record { vertices = start (told c) .args .vertices; longest = start (told c) .args .longest }) (start (told c) .args .start) (start (told c) .args .destination) (start (told c) .args .pattern .now) (lent [] (start (told c) .args .index .now) []) (c .before .before .scanned .given .0 .0)
 admitted c = record { earlier = earlier (told c); scanned = sym (c .before .before .before .before .scan .ensures) ∙ c .before .before .scanned .given .1 }
 
-check-requires : tie.Need-check-requires
-check-requires c κs = search needs
-
-enum-known-checked : tie.Need-enum-known-checked
-enum-known-checked c = search needs
-
 returns : tie.Need-returns
 returns c = query-refused _ _ _ _ _ (c .before .checked .given .0 .0)
     (earlier-stop _ _ _ _ _ (sym (c .before .before .before .check .ensures) ∙ ap answerOf (c .before .checked .given .1)) (number-some (c .before .checked .given .0 .0)))
@@ -43,22 +37,10 @@ returns c = query-refused _ _ _ _ _ (c .before .checked .given .0 .0)
 enum-told : tie.Need-enum-told
 enum-told c = search needs
 
-scan-requires : tie.Need-scan-requires
-scan-requires c κs = search needs
-
-enum-known-scanned : tie.Need-enum-known-scanned
-enum-known-scanned c = search needs
-
-enum-told-2 : tie.Need-enum-told-2
-enum-told-2 c = search needs
-
 returns-2 : tie.Need-returns-2
 returns-2 c =
     let none = scans-none _ _ _ (sym (c .before .before .scan .ensures) ∙ c .enum-told2 .given .1) in
     query-refused _ _ _ _ _ IndexMemory (earlier-on _ _ _ _ _ (earlier (c .before .before .before)) ∙ first-is (stop none))
-
-minimum-repeat-requires : tie.Need-minimum-repeat-requires
-minimum-repeat-requires c κs = search needs
 
 slice-aggregate-answer : tie.Need-slice-aggregate-answer
 slice-aggregate-answer c = sym (length-take-le _ (start (told (c .before)) .args .index .now) (part-index (admitted (c .before)) _ (c .before .minimum-repeat .ensures)))
@@ -83,15 +65,15 @@ pub query-spec : {M : Type 1} → statement M
 query-spec =
     tie.close
     (tie.spec
-    check-requires
-    enum-known-checked
+    (λ c κs. search needs)
+    (λ c. search needs)
     returns
     enum-told
-    scan-requires
-    enum-known-scanned
-    enum-told-2
+    (λ c κs. search needs)
+    (λ c. search needs)
+    (λ c. search needs)
     returns-2
-    minimum-repeat-requires
+    (λ c κs. search needs)
     slice-aggregate-answer
     slice-aggregate-answer-2
     answer-requires

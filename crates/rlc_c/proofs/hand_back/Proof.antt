@@ -8,29 +8,14 @@ use borrow.Author.Needs.{needs}
 use Rattle.rlc_c.proofs.hand_back.Statement.{statement}
 use Rattle.rlc_c.proofs.hand_back.Tie as tie
 
-slice-write-words : tie.Need-slice-write-words
-slice-write-words c = search needs
-
 slice-write-words-2 : tie.Need-slice-write-words-2
 slice-write-words-2 c = simp length-set (omega arith)
 
 enum-told : tie.Need-enum-told
 enum-told c = search needs
 
-enum-known-answer : tie.Need-enum-known-answer
-enum-known-answer c = search needs
-
-refusal-number-requires : tie.Need-refusal-number-requires
-refusal-number-requires c κs = search needs
-
-same-length : tie.Need-same-length
-same-length c = search needs
-
 returns : tie.Need-returns
 returns c = record { number = sym (ap answerOf (c .enum-told .given .1)); words-after = written (c .before .before .before .before .args .words .now) _ _ (c .before .before .before .before .pre) }
-
-same-length-2 : tie.Need-same-length-2
-same-length-2 c = search needs
 
 returns-2 : tie.Need-returns-2
 returns-2 c = record { number = c .refusal-number .ensures ∙ sym (ap answerOf (c .before .before .answer .given .1)); words-after = written (c .before .before .before .before .before .before .args .words .now) _ _ (c .before .before .before .before .before .before .pre) }
@@ -39,12 +24,12 @@ pub hand-back-spec : {M : Type 1} → statement M
 hand-back-spec =
     tie.close
     (tie.spec
-    slice-write-words
+    (λ c. search needs)
     slice-write-words-2
     enum-told
-    enum-known-answer
-    refusal-number-requires
-    same-length
+    (λ c. search needs)
+    (λ c κs. search needs)
+    (λ c. search needs)
     returns
-    same-length-2
+    (λ c. search needs)
     returns-2)

@@ -8,24 +8,6 @@ use Rattle.rlc_c.proofs.rlc_open.Tie as tie
 returns : tie.Need-returns
 returns c = unchanged (c .if1 .taken)
 
-header-in-requires : tie.Need-header-in-requires
-header-in-requires c κs = search needs
-
-open-requires : tie.Need-open-requires
-open-requires c κs = search needs
-
-hand-back-requires : tie.Need-hand-back-requires
-hand-back-requires c κs = search needs
-
-same-length : tie.Need-same-length
-same-length c = search needs
-
-same-length-2 : tie.Need-same-length-2
-same-length-2 c = search needs
-
-same-length-3 : tie.Need-same-length-3
-same-length-3 c = search needs
-
 returns-2 : tie.Need-returns-2
 returns-2 c =
     let back = c .before .before in
@@ -38,10 +20,10 @@ rlc-open-spec =
     tie.close
     (tie.spec
     returns
-    header-in-requires
-    open-requires
-    hand-back-requires
-    same-length
-    same-length-2
-    same-length-3
+    (λ c κs. search needs)
+    (λ c κs. search needs)
+    (λ c κs. search needs)
+    (λ c. search needs)
+    (λ c. search needs)
+    (λ c. search needs)
     returns-2)

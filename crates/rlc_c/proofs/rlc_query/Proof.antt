@@ -10,23 +10,8 @@ use Rattle.rlc_c.proofs.rlc_query.Tie as tie
 returns : tie.Need-returns
 returns c = rw (other (c .before .before .before .before .args .words .now) (c .if1 .taken)) untouched
 
-header-in-requires : tie.Need-header-in-requires
-header-in-requires c κs = search needs
-
-query-requires : tie.Need-query-requires
-query-requires c κs = search needs
-
 enum-told : tie.Need-enum-told
 enum-told c = search needs
-
-enum-told-2 : tie.Need-enum-told-2
-enum-told-2 c = search needs
-
-enum-known-reply : tie.Need-enum-known-reply
-enum-known-reply c = search needs
-
-refusal-number-requires : tie.Need-refusal-number-requires
-refusal-number-requires c κs = search needs
 
 returns-2 : tie.Need-returns-2
 returns-2 c =
@@ -48,12 +33,12 @@ rlc-query-spec =
     tie.close
     (tie.spec
     returns
-    header-in-requires
-    query-requires
+    (λ c κs. search needs)
+    (λ c κs. search needs)
     enum-told
-    enum-told-2
-    enum-known-reply
-    refusal-number-requires
+    (λ c. search needs)
+    (λ c. search needs)
+    (λ c κs. search needs)
     returns-2
     returns-3
     returns-4)

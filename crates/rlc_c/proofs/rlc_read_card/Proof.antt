@@ -7,24 +7,6 @@ use Rattle.rlc_c.proofs.rlc_read_card.Tie as tie
 returns : tie.Need-returns
 returns c = unchanged (c .if1 .taken)
 
-read-card-requires : tie.Need-read-card-requires
-read-card-requires c κs = search needs
-
-enum-known-answer : tie.Need-enum-known-answer
-enum-known-answer c = search needs
-
-refusal-number-requires : tie.Need-refusal-number-requires
-refusal-number-requires c κs = search needs
-
-same-length : tie.Need-same-length
-same-length c = search needs
-
-same-length-2 : tie.Need-same-length-2
-same-length-2 c = search needs
-
-same-length-3 : tie.Need-same-length-3
-same-length-3 c = search needs
-
 returns-2 : tie.Need-returns-2
 returns-2 c =
     let told = c .before .before in
@@ -33,21 +15,6 @@ returns-2 c =
 
 enum-told : tie.Need-enum-told
 enum-told c = search needs
-
-hand-back-requires : tie.Need-hand-back-requires
-hand-back-requires c κs = search needs
-
-same-length-4 : tie.Need-same-length-4
-same-length-4 c = search needs
-
-same-length-5 : tie.Need-same-length-5
-same-length-5 c = search needs
-
-same-length-6 : tie.Need-same-length-6
-same-length-6 c = search needs
-
-same-length-7 : tie.Need-same-length-7
-same-length-7 c = search needs
 
 returns-3 : tie.Need-returns-3
 returns-3 c =
@@ -61,17 +28,17 @@ rlc-read-card-spec =
     tie.close
     (tie.spec
     returns
-    read-card-requires
-    enum-known-answer
-    refusal-number-requires
-    same-length
-    same-length-2
-    same-length-3
+    (λ c κs. search needs)
+    (λ c. search needs)
+    (λ c κs. search needs)
+    (λ c. search needs)
+    (λ c. search needs)
+    (λ c. search needs)
     returns-2
     enum-told
-    hand-back-requires
-    same-length-4
-    same-length-5
-    same-length-6
-    same-length-7
+    (λ c κs. search needs)
+    (λ c. search needs)
+    (λ c. search needs)
+    (λ c. search needs)
+    (λ c. search needs)
     returns-3)

@@ -8,27 +8,6 @@ use Rattle.rlc_c.proofs.rlc_remove.Tie as tie
 returns : tie.Need-returns
 returns c = unchanged (c .if1 .taken)
 
-header-in-requires : tie.Need-header-in-requires
-header-in-requires c κs = search needs
-
-remove-requires : tie.Need-remove-requires
-remove-requires c κs = search needs
-
-hand-back-requires : tie.Need-hand-back-requires
-hand-back-requires c κs = search needs
-
-same-length : tie.Need-same-length
-same-length c = search needs
-
-same-length-2 : tie.Need-same-length-2
-same-length-2 c = search needs
-
-same-length-3 : tie.Need-same-length-3
-same-length-3 c = search needs
-
-same-length-4 : tie.Need-same-length-4
-same-length-4 c = search needs
-
 returns-2 : tie.Need-returns-2
 returns-2 c =
     let back = c .before .before in
@@ -41,11 +20,11 @@ rlc-remove-spec =
     tie.close
     (tie.spec
     returns
-    header-in-requires
-    remove-requires
-    hand-back-requires
-    same-length
-    same-length-2
-    same-length-3
-    same-length-4
+    (λ c κs. search needs)
+    (λ c κs. search needs)
+    (λ c κs. search needs)
+    (λ c. search needs)
+    (λ c. search needs)
+    (λ c. search needs)
+    (λ c. search needs)
     returns-2)

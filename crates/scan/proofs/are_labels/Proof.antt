@@ -16,9 +16,6 @@ abbrev μ-loop : tie.MeasureT-loop
 loop-holds : tie.Need-loop-holds Inv-loop μ-loop
 loop-holds c = left-start _ _ (c .pre)
 
-sub-some : tie.Need-sub-some Inv-loop μ-loop
-sub-some c = search needs
-
 add-some : tie.Need-add-some Inv-loop μ-loop
 add-some c = let m = c .before .loop .inv in search needs
 
@@ -33,9 +30,6 @@ add-length c = let m = c .before .before .loop .inv in search needs
 
 sub-left : tie.Need-sub-left Inv-loop μ-loop
 sub-left c = let m = c .before .before .loop .inv in search needs
-
-loop-less : tie.Need-loop-less Inv-loop μ-loop
-loop-less c = search needs
 
 loop-again : tie.Need-loop-again Inv-loop μ-loop
 loop-again c = left-more (c .before .before .loop .inv) (c .before .loop-test .taken) (omega (arith, c .if1 .left))
@@ -53,13 +47,13 @@ are-labels-spec =
     Inv-loop
     μ-loop
     loop-holds
-    sub-some
+    (λ c. search needs)
     add-some
     sub-if1
     returns
     add-length
     sub-left
-    loop-less
+    (λ c. search needs)
     loop-again
     returns-2
     returns-3)

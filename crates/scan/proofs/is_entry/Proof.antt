@@ -25,21 +25,6 @@ returns-2 c = record { is = sym (no-entry _ _ _ (λ v. omega (arith, v .owner, c
 returns-3 : tie.Need-returns-3
 returns-3 c = record { is = sym (no-entry _ _ _ (λ v. omega (arith, v .hub, c .if3 .taken))); seen = c .before .before .before .pre }
 
-is-code-requires : tie.Need-is-code-requires
-is-code-requires c κs = search needs
-
-slot-requires : tie.Need-slot-requires
-slot-requires c κs = search needs
-
-cast-seen : tie.Need-cast-seen
-cast-seen c = omega arith
-
-mul-seen : tie.Need-mul-seen
-mul-seen c = search needs
-
-element-write-seen : tie.Need-element-write-seen
-element-write-seen c = search needs
-
 returns-4 : tie.Need-returns-4
 returns-4 c =
     let test = c .before .before in
@@ -58,10 +43,10 @@ is-entry-spec =
     returns
     returns-2
     returns-3
-    is-code-requires
-    slot-requires
-    cast-seen
-    mul-seen
-    element-write-seen
+    (λ c κs. search needs)
+    (λ c κs. search needs)
+    (λ c. omega arith)
+    (λ c. search needs)
+    (λ c. search needs)
     returns-4
     returns-5)

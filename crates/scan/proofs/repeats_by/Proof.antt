@@ -15,9 +15,6 @@ abbrev μ-loop : tie.MeasureT-loop
 rem-last : tie.Need-rem-last Inv-loop μ-loop
 rem-last c = unit-some (c .pre)
 
-add-length : tie.Need-add-length Inv-loop μ-loop
-add-length c = search needs
-
 loop-holds : tie.Need-loop-holds Inv-loop μ-loop
 loop-holds c = trying-start (c .pre)
 
@@ -49,7 +46,7 @@ repeats-by-spec =
     Inv-loop
     μ-loop
     rem-last
-    add-length
+    (λ c. search needs)
     loop-holds
     mul-word
     add-word

@@ -66,17 +66,8 @@ untested : (c : tie.After-exit2 Inv-loop μ-loop) (b : Bool)
     ≡ whole (c .before .before)
 untested c b e = sym (rw e at (skimmed (c .before .before) (c .exit2 .given .1)))
 
-array-write-seen : tie.Need-array-write-seen Inv-loop μ-loop
-array-write-seen c = search needs
-
-field-end-requires : tie.Need-field-end-requires Inv-loop μ-loop
-field-end-requires c κs = search needs
-
 loop-holds : tie.Need-loop-holds Inv-loop μ-loop
 loop-holds c = (omega arith, (scan-start _ _ _, (seen-none _, record { side = λ y l h. absurd (omega arith); owner = λ y l h. absurd (omega arith) })))
-
-mul-skim : tie.Need-mul-skim Inv-loop μ-loop
-mul-skim c = search needs
 
 skim-requires : tie.Need-skim-requires Inv-loop μ-loop
 skim-requires c κs = c .before .loop .inv .0
@@ -86,9 +77,6 @@ enum-told c = search needs
 
 returns : tie.Need-returns Inv-loop μ-loop
 returns c = sym (skimmed (c .before .before) (c .enum-told .given .1))
-
-enum-known-exit : tie.Need-enum-known-exit Inv-loop μ-loop
-enum-known-exit c = search needs
 
 mul-all-zero-u64 : tie.Need-mul-all-zero-u64 Inv-loop μ-loop
 mul-all-zero-u64 c = let h = rest-slot (c .before) in search needs
@@ -102,17 +90,11 @@ part-all-zero-u64-start c = let h = rest-slot (c .before) in search needs
 part-all-zero-u64-end : tie.Need-part-all-zero-u64-end Inv-loop μ-loop
 part-all-zero-u64-end c = let h = rest-slot (c .before) in search needs
 
-all-zero-u64-requires : tie.Need-all-zero-u64-requires Inv-loop μ-loop
-all-zero-u64-requires c κs = search needs
-
 returns-2 : tie.Need-returns-2 Inv-loop μ-loop
 returns-2 c = rest (c .before .before .before .before) true (sym (c .before .all-zero-u64 .ensures) ∙ c .if1 .taken)
 
 returns-3 : tie.Need-returns-3 Inv-loop μ-loop
 returns-3 c = rest (c .before .before .before .before) false (sym (c .before .all-zero-u64 .ensures) ∙ c .if1 .left)
-
-enum-known-exit-2 : tie.Need-enum-known-exit-2 Inv-loop μ-loop
-enum-known-exit-2 c = search needs
 
 mul-prev : tie.Need-mul-prev Inv-loop μ-loop
 mul-prev c = let h = untested-slot (c .before) in search needs
@@ -135,9 +117,6 @@ side c = entry-side (start (exit c .before .before) .args .vertices) _ _ (entry 
 
 mul-end : tie.Need-mul-end Inv-loop μ-loop
 mul-end c = let h = side c in search needs
-
-mul-end-2 : tie.Need-mul-end-2 Inv-loop μ-loop
-mul-end-2 c = search needs
 
 add-end : tie.Need-add-end Inv-loop μ-loop
 add-end c = let h = side c in search needs
@@ -163,27 +142,27 @@ scan-spec =
     (tie.spec
     Inv-loop
     μ-loop
-    array-write-seen
-    field-end-requires
+    (λ c. search needs)
+    (λ c κs. search needs)
     loop-holds
-    mul-skim
+    (λ c. search needs)
     skim-requires
     enum-told
     returns
-    enum-known-exit
+    (λ c. search needs)
     mul-all-zero-u64
     sub-all-zero-u64
     part-all-zero-u64-start
     part-all-zero-u64-end
-    all-zero-u64-requires
+    (λ c κs. search needs)
     returns-2
     returns-3
-    enum-known-exit-2
+    (λ c. search needs)
     mul-prev
     shared-slice-read-prev
     is-entry-requires
     mul-end
-    mul-end-2
+    (λ c. search needs)
     add-end
     add-i
     loop-less

@@ -1,4 +1,4 @@
--- `index_edges` meets its contract: the order is counted in the front of work memory, and the index is built in it.
+-- `settle::index_edges` meets its contract: the order is counted in the front of work memory, and the index is built in it.
 use native.Mathlib.Nat.{le-refl}
 use borrow.Author.Needs.{needs}
 use Rattle.model.specs.Limits.{mostVertices}
@@ -6,32 +6,17 @@ use Rattle.settle.proofs.Indexing.{room-front, countable, buildable, in
 use Rattle.settle.proofs.index_edges.Statement.{statement}
 use Rattle.settle.proofs.index_edges.Tie as tie
 
-slice-relend-prefix-counted : tie.Need-slice-relend-prefix-counted
-slice-relend-prefix-counted c = search needs
-
 slice-aggregate-counted : tie.Need-slice-aggregate-counted
 slice-aggregate-counted c = room-front (c .before .before .before .before .pre)
 
-slice-aggregate-counted-2 : tie.Need-slice-aggregate-counted-2
-slice-aggregate-counted-2 c = search needs
-
 counted-requires : tie.Need-counted-requires
 counted-requires c κs = countable (c .before .before .before .before .before .pre) (le-refl mostVertices)
-
-slice-aggregate-build : tie.Need-slice-aggregate-build
-slice-aggregate-build c = search needs
 
 build-requires : tie.Need-build-requires
 build-requires c κs =
     let count = c .before .before .before .before .before .before in
     let start = count .before .before .before .before .before .before in
     buildable (start .pre) (count .counted .last .1 .1 .0) (le-refl mostVertices) (count .counted .ensures) (count .counted .kept .1 .1 .0)
-
-same-length : tie.Need-same-length
-same-length c = search needs
-
-same-length-2 : tie.Need-same-length-2
-same-length-2 c = search needs
 
 returns : tie.Need-returns
 returns c =
@@ -44,12 +29,12 @@ pub index-edges-spec : {M : Type 1} → statement M
 index-edges-spec =
     tie.close
     (tie.spec
-    slice-relend-prefix-counted
+    (λ c. search needs)
     slice-aggregate-counted
-    slice-aggregate-counted-2
+    (λ c. search needs)
     counted-requires
-    slice-aggregate-build
+    (λ c. search needs)
     build-requires
-    same-length
-    same-length-2
+    (λ c. search needs)
+    (λ c. search needs)
     returns)

@@ -22,12 +22,6 @@ long c = omega arith
 long-less : (c : tie.After-subtract Inv-loop μ-loop) → leastWork ≤ length (c .subtract .last .0)
 long-less c = omega (arith, long (c .before .before .before))
 
-copy-requires : tie.Need-copy-requires Inv-loop μ-loop
-copy-requires c κs = search needs
-
-next-requires : tie.Need-next-requires Inv-loop μ-loop
-next-requires c κs = search needs
-
 loop-holds : tie.Need-loop-holds Inv-loop μ-loop
 loop-holds c =
     let copy = c .before .before .before .before in
@@ -59,9 +53,6 @@ returns c =
     (c .before .next2 .ensures)
     (c .if1 .taken))
 
-add-next : tie.Need-add-next Inv-loop μ-loop
-add-next c = omega arith
-
 next-requires-3 : tie.Need-next-requires-3 Inv-loop μ-loop
 next-requires-3 c κs = (record { row = omega arith; long = long-less (c .before .before .before .before .before .before) }, omega arith)
 
@@ -91,14 +82,14 @@ pick-spec =
     (tie.spec
     Inv-loop
     μ-loop
-    copy-requires
-    next-requires
+    (λ c κs. search needs)
+    (λ c κs. search needs)
     loop-holds
     subtract-requires
     next-requires-2
     same-length
     returns
-    add-next
+    (λ c. omega arith)
     next-requires-3
     loop-less
     loop-again

@@ -28,9 +28,6 @@ len-out c = c .stage-owner .ensures .keeps .len ∙ c .before .before .before .l
 len : (c : tie.After-stage-hub Inv-loop μ-loop) → length (c .stage-hub .last .0) ≡ length (start (owned c .before .before .before) .args .w .now)
 len c = c .stage-hub .ensures .keeps .len ∙ len-out (owned c)
 
-next-requires : tie.Need-next-requires Inv-loop μ-loop
-next-requires c κs = omega arith
-
 loop-holds : tie.Need-loop-holds Inv-loop μ-loop
 loop-holds c = through-none (c .before .before .before .pre) (c .next .ensures)
 
@@ -92,7 +89,7 @@ stage-spec =
     (tie.spec
     Inv-loop
     μ-loop
-    next-requires
+    (λ c κs. omega arith)
     loop-holds
     stage-owner-requires
     same-length

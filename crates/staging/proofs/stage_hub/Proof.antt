@@ -25,15 +25,6 @@ start c = picked c .before .before .before
 room : (c : tie.At-loop Inv-loop μ-loop) → leastWork + start c .args .slots ≤ length (c .loop .w)
 room c = omega (arith, c .loop .inv .stages .keeps .len, picked c .pick .ensures .keeps .len, start c .pre .room)
 
-pick-requires : tie.Need-pick-requires Inv-loop μ-loop
-pick-requires c κs = omega arith
-
-add-next : tie.Need-add-next Inv-loop μ-loop
-add-next c = omega arith
-
-next-requires : tie.Need-next-requires Inv-loop μ-loop
-next-requires c κs = omega arith
-
 loop-holds : tie.Need-loop-holds Inv-loop μ-loop
 loop-holds c = emitting-none (c .before .before .before .before .before .before .before .pre .count) (c .next .ensures)
 
@@ -65,14 +56,8 @@ slice-write-w c = omega (arith, room (c .before .before .before))
 add-k : tie.Need-add-k Inv-loop μ-loop
 add-k c = omega (arith, room (c .before .before .before))
 
-add-next-2 : tie.Need-add-next-2 Inv-loop μ-loop
-add-next-2 c = omega arith
-
 next-requires-2 : tie.Need-next-requires-2 Inv-loop μ-loop
 next-requires-2 c κs = let l = room (c .before .before .before .before) in (record { row = omega arith; long = simp length-set (omega arith) }, omega arith)
-
-loop-less : tie.Need-loop-less Inv-loop μ-loop
-loop-less c = omega arith
 
 loop-again : tie.Need-loop-again Inv-loop μ-loop
 loop-again c =
@@ -94,9 +79,9 @@ stage-hub-spec =
     (tie.spec
     Inv-loop
     μ-loop
-    pick-requires
-    add-next
-    next-requires
+    (λ c κs. omega arith)
+    (λ c. omega arith)
+    (λ c κs. omega arith)
     loop-holds
     add-result
     same-length
@@ -106,9 +91,9 @@ stage-hub-spec =
     mul-w
     slice-write-w
     add-k
-    add-next-2
+    (λ c. omega arith)
     next-requires-2
-    loop-less
+    (λ c. omega arith)
     loop-again
     same-length-2
     returns-2)

@@ -27,12 +27,6 @@ start c = copied c .before .before .before
 room : (c : tie.At-loop Inv-loop μ-loop) → leastWork + start c .args .slots ≤ length (c .loop .w)
 room c = omega (arith, c .loop .inv .stages .keeps .len, copied c .copy .ensures .keeps .len, start c .pre .room)
 
-copy-requires : tie.Need-copy-requires Inv-loop μ-loop
-copy-requires c κs = omega arith
-
-next-requires : tie.Need-next-requires Inv-loop μ-loop
-next-requires c κs = omega arith
-
 loop-holds : tie.Need-loop-holds Inv-loop μ-loop
 loop-holds c =
     let copy = c .before .before .before .before in
@@ -71,9 +65,6 @@ subtract-requires c κs =
       record { row = omega arith; long = simp length-set (omega arith) },
       (record { row = omega arith; long = simp length-set (omega arith) }, record { row = omega arith; long = simp length-set (omega arith) }),
     )
-
-add-next : tie.Need-add-next Inv-loop μ-loop
-add-next c = omega arith
 
 next-requires-2 : tie.Need-next-requires-2 Inv-loop μ-loop
 next-requires-2 c κs =
@@ -114,8 +105,8 @@ stage-owner-spec =
     (tie.spec
     Inv-loop
     μ-loop
-    copy-requires
-    next-requires
+    (λ c κs. omega arith)
+    (λ c κs. omega arith)
     loop-holds
     add-result
     same-length
@@ -126,7 +117,7 @@ stage-owner-spec =
     slice-write-w
     add-n
     subtract-requires
-    add-next
+    (λ c. omega arith)
     next-requires-2
     loop-less
     loop-again

@@ -35,20 +35,8 @@ clear-rows-requires c κs = (c .before .before .before .pre .1 .base-row, c .bef
 loop-holds : tie.Need-loop-holds Inv-loop μ-loop
 loop-holds c = branch-none (c .before .before .clear-rows .ensures)
 
-mul-x : tie.Need-mul-x Inv-loop μ-loop
-mul-x c = omega arith
-
-shared-slice-read-x : tie.Need-shared-slice-read-x Inv-loop μ-loop
-shared-slice-read-x c = omega arith
-
-cast-bit : tie.Need-cast-bit Inv-loop μ-loop
-cast-bit c = omega arith
-
 bit-requires : tie.Need-bit-requires Inv-loop μ-loop
 bit-requires c κs = (record { row = c .before .before .before .before .before .before .before .before .before .before .pre .1 .starts-row; long = long (c .before .before .before) }, omega arith)
-
-cast-c : tie.Need-cast-c Inv-loop μ-loop
-cast-c c = omega arith
 
 add-mark : tie.Need-add-mark Inv-loop μ-loop
 add-mark c = omega (arith, c .before .before .before .before .before .before .before .before .before .before .before .before .before .pre .1 .base-row)
@@ -63,12 +51,6 @@ mark-requires : tie.Need-mark-requires Inv-loop μ-loop
 mark-requires c κs =
     let f = field (c .before .before .before .before .before) in
     (record { row = omega (arith, c .before .before .before .before .before .before .before .before .before .before .before .before .before .pre .1 .base-row); long = long (c .before .before .before .before .before .before) }, omega arith)
-
-add-i : tie.Need-add-i Inv-loop μ-loop
-add-i c = omega arith
-
-loop-less : tie.Need-loop-less Inv-loop μ-loop
-loop-less c = omega arith
 
 loop-again : tie.Need-loop-again Inv-loop μ-loop
 loop-again c =
@@ -95,17 +77,17 @@ branch-spec =
     μ-loop
     clear-rows-requires
     loop-holds
-    mul-x
-    shared-slice-read-x
-    cast-bit
+    (λ c. omega arith)
+    (λ c. omega arith)
+    (λ c. omega arith)
     bit-requires
-    cast-c
+    (λ c. omega arith)
     add-mark
     sub-mark
     cast-mark
     mark-requires
-    add-i
-    loop-less
+    (λ c. omega arith)
+    (λ c. omega arith)
     loop-again
     same-length
     returns)

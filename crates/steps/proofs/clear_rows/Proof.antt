@@ -17,17 +17,8 @@ abbrev μ-loop : tie.MeasureT-loop
 loop-holds : tie.Need-loop-holds Inv-loop μ-loop
 loop-holds c = (omega arith, clears-none)
 
-add-clear : tie.Need-add-clear Inv-loop μ-loop
-add-clear c = omega arith
-
 clear-requires : tie.Need-clear-requires Inv-loop μ-loop
 clear-requires c κs = record { row = omega arith; long = keeps-long (c .before .before .loop .inv .1 .keeps) (c .before .before .before .before .pre .1) }
-
-add-i : tie.Need-add-i Inv-loop μ-loop
-add-i c = omega arith
-
-loop-less : tie.Need-loop-less Inv-loop μ-loop
-loop-less c = omega arith
 
 loop-again : tie.Need-loop-again Inv-loop μ-loop
 loop-again c = (omega arith, clears-more (c .before .before .before .before .before .loop .inv .1) (c .before .before .clear .ensures))
@@ -45,10 +36,10 @@ clear-rows-spec =
     Inv-loop
     μ-loop
     loop-holds
-    add-clear
+    (λ c. omega arith)
     clear-requires
-    add-i
-    loop-less
+    (λ c. omega arith)
+    (λ c. omega arith)
     loop-again
     same-length
     returns)

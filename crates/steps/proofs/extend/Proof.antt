@@ -14,24 +14,6 @@ Inv-loop edges slots label w₀ base r s key end i₀ w i = Running edges w₀ l
 abbrev μ-loop : tie.MeasureT-loop
 μ-loop edges slots label w₀ base r s key end i₀ w i = length edges - i
 
-cast-key : tie.Need-cast-key Inv-loop μ-loop
-cast-key c = omega arith
-
-mul-key : tie.Need-mul-key Inv-loop μ-loop
-mul-key c = omega arith
-
-mul-key-2 : tie.Need-mul-key-2 Inv-loop μ-loop
-mul-key-2 c = omega arith
-
-add-key : tie.Need-add-key Inv-loop μ-loop
-add-key c = omega arith
-
-add-end : tie.Need-add-end Inv-loop μ-loop
-add-end c = omega arith
-
-mul-skip : tie.Need-mul-skip Inv-loop μ-loop
-mul-skip c = omega arith
-
 shared-slice-read-skip : tie.Need-shared-slice-read-skip Inv-loop μ-loop
 shared-slice-read-skip c = omega (arith, c .before .before .before .before .pre .0 .starts .long)
 
@@ -40,12 +22,6 @@ skip-requires c κs = under-up (omega arith) (c .before .before .before .before 
 
 loop-holds : tie.Need-loop-holds Inv-loop μ-loop
 loop-holds c = run-none (c .before .before .before .before .before .pre .0 .edged .rises) (c .skip .ensures)
-
-mul-x : tie.Need-mul-x Inv-loop μ-loop
-mul-x c = omega arith
-
-shared-slice-read-x : tie.Need-shared-slice-read-x Inv-loop μ-loop
-shared-slice-read-x c = omega arith
 
 same-length : tie.Need-same-length Inv-loop μ-loop
 same-length c = c .before .before .before .loop .inv .gains .keeps .len
@@ -74,12 +50,6 @@ union-requires c κs =
     let here = keeps-has (turn .loop .inv .gains .keeps) (record { row = pre .1 .row; long = pre .1 .long }) in
     (here, (here, record { row = omega (arith, sub-y (c .before), c .before .if1 .left, pre .1 .base-rows); long = here .long }))
 
-add-i : tie.Need-add-i Inv-loop μ-loop
-add-i c = omega arith
-
-loop-less : tie.Need-loop-less Inv-loop μ-loop
-loop-less c = omega arith
-
 loop-again : tie.Need-loop-again Inv-loop μ-loop
 loop-again c =
     let turn = c .before .before .before .before .before .before in
@@ -100,25 +70,25 @@ extend-spec =
     (tie.spec
     Inv-loop
     μ-loop
-    cast-key
-    mul-key
-    mul-key-2
-    add-key
-    add-end
-    mul-skip
+    (λ c. omega arith)
+    (λ c. omega arith)
+    (λ c. omega arith)
+    (λ c. omega arith)
+    (λ c. omega arith)
+    (λ c. omega arith)
     shared-slice-read-skip
     skip-requires
     loop-holds
-    mul-x
-    shared-slice-read-x
+    (λ c. omega arith)
+    (λ c. omega arith)
     same-length
     returns
     sub-y
     cast-y
     add-union
     union-requires
-    add-i
-    loop-less
+    (λ c. omega arith)
+    (λ c. omega arith)
     loop-again
     same-length-2
     returns-2)

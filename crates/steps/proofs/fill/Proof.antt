@@ -29,9 +29,6 @@ extend-requires c κs =
     let pre = loop .before .before .before .before .before .before .pre in
     (pre .0, filling-extendable (pre .1) (loop .loop .inv) (omega (arith, c .before .loop-test .taken)))
 
-add-next : tie.Need-add-next Inv-loop μ-loop
-add-next c = omega arith
-
 next-requires-2 : tie.Need-next-requires-2 Inv-loop μ-loop
 next-requires-2 c κs =
     let loop = c .before .before .before .before .before .before in
@@ -64,7 +61,7 @@ fill-spec =
     loop-holds
     add-extend
     extend-requires
-    add-next
+    (λ c. omega arith)
     next-requires-2
     loop-less
     loop-again

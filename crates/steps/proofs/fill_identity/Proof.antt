@@ -17,20 +17,11 @@ abbrev μ-loop : tie.MeasureT-loop
 loop-holds : tie.Need-loop-holds Inv-loop μ-loop
 loop-holds c = filling-none (c .before .pre .empty)
 
-add-mark : tie.Need-add-mark Inv-loop μ-loop
-add-mark c = omega arith
-
 mark-requires : tie.Need-mark-requires Inv-loop μ-loop
 mark-requires c κs =
     let loop = c .before .before in
     let pre = loop .before .before .pre in
     (record { row = omega (arith, pre .base-rows); long = keeps-long (loop .loop .inv .keeps) (pre .long) }, omega arith)
-
-add-a : tie.Need-add-a Inv-loop μ-loop
-add-a c = omega arith
-
-loop-less : tie.Need-loop-less Inv-loop μ-loop
-loop-less c = omega arith
 
 loop-again : tie.Need-loop-again Inv-loop μ-loop
 loop-again c =
@@ -50,10 +41,10 @@ fill-identity-spec =
     Inv-loop
     μ-loop
     loop-holds
-    add-mark
+    (λ c. omega arith)
     mark-requires
-    add-a
-    loop-less
+    (λ c. omega arith)
+    (λ c. omega arith)
     loop-again
     same-length
     returns)

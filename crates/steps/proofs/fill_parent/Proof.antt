@@ -45,12 +45,6 @@ range c =
     let pre = start (c .before) .pre .1 in
     label-range (c .before .loop .inv) (pre .0) (pre .1) (since (c .before)) (c .loop-test .taken) refl
 
-mul-from : tie.Need-mul-from Inv-loop μ-loop
-mul-from c = omega arith
-
-sub-from : tie.Need-sub-from Inv-loop μ-loop
-sub-from c = omega arith
-
 clear-rows-requires : tie.Need-clear-rows-requires Inv-loop μ-loop
 clear-rows-requires c κs = (omega arith, c .before .before .before .before .before .pre .1 .1 .long)
 
@@ -138,8 +132,8 @@ fill-parent-spec =
     (tie.spec
     Inv-loop
     μ-loop
-    mul-from
-    sub-from
+    (λ c. omega arith)
+    (λ c. omega arith)
     clear-rows-requires
     fill-identity-requires
     loop-holds

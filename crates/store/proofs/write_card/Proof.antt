@@ -19,15 +19,6 @@ passed : (c : tie.After-known-told2)
     (c .before .standing2 .given .0 .0)
 passed c = rw (c .before .standing2 .given .1) at (c .before .before .before .check-write .ensures)
 
-check-write-requires : tie.Need-check-write-requires
-check-write-requires c κs = search needs
-
-enum-known-standing : tie.Need-enum-known-standing
-enum-known-standing c = search needs
-
-enum-known-standing-2 : tie.Need-enum-known-standing-2
-enum-known-standing-2 c = search needs
-
 slice-aggregate-write : tie.Need-slice-aggregate-write
 slice-aggregate-write c = sym (length-take-le _ (start (c .before) .args .edges .now) (memory (passed (c .before)) .within))
 
@@ -40,14 +31,8 @@ mul-t17 c = let s = memory (passed (c .before .before .before .before .before)) 
 add-t18 : tie.Need-add-t18
 add-t18 c = let s = memory (passed (c .before .before .before .before .before)) in omega (arith, s .within, s .slots)
 
-same-length : tie.Need-same-length
-same-length c = search needs
-
 returns : tie.Need-returns
 returns c = write-stops _ _ (c .before .standing .given .0 .0) (rw (c .before .standing .given .1) at (c .before .before .before .check-write .ensures))
-
-same-length-2 : tie.Need-same-length-2
-same-length-2 c = search needs
 
 returns-2 : tie.Need-returns-2
 returns-2 c = wrote (passed (c .before .before .before .before .before)) (c .before .before .write .ensures)
@@ -56,14 +41,14 @@ pub write-card-spec : {M : Type 1} → statement M
 write-card-spec =
     tie.close
     (tie.spec
-    check-write-requires
-    enum-known-standing
-    enum-known-standing-2
+    (λ c κs. search needs)
+    (λ c. search needs)
+    (λ c. search needs)
     slice-aggregate-write
     write-requires
     mul-t17
     add-t18
-    same-length
+    (λ c. search needs)
     returns
-    same-length-2
+    (λ c. search needs)
     returns-2)

@@ -27,61 +27,16 @@ word c = let pre = start c .pre in part-word (pre .0) (pre .1) (c .child .ensure
 pattern : (c : tie.After-child) → Keyed mostLongest (part c)
 pattern c = let pre = start c .pre in subst (Keyed mostLongest) (sym (word c)) (keyed-up (pre .0 .chosen .most) (keyed (pre .0) (pre .1)))
 
-mul-row : tie.Need-mul-row
-mul-row c = search needs
-
-add-row : tie.Need-add-row
-add-row c = search needs
-
-add-row-2 : tie.Need-add-row-2
-add-row-2 c = search needs
-
-next-requires : tie.Need-next-requires
-next-requires c κs = search needs
-
-same-length : tie.Need-same-length
-same-length c = search needs
-
 returns : tie.Need-returns
 returns c =
     let pre = c .before .before .before .before .before .before .pre in
     leaf-empty (pre .0) (pre .1) (c .before .next .ensures) (c .if1 .taken)
 
-child-requires : tie.Need-child-requires
-child-requires c κs = search needs
-
-sub-start : tie.Need-sub-start
-sub-start c = search needs
-
-sub-is-own : tie.Need-sub-is-own
-sub-is-own c = search needs
-
-part-is-own-start : tie.Need-part-is-own-start
-part-is-own-start c = search needs
-
-part-is-own-end : tie.Need-part-is-own-end
-part-is-own-end c = search needs
-
 is-own-requires : tie.Need-is-own-requires
 is-own-requires c κs = pattern (c .before .before)
 
-sub-code : tie.Need-sub-code
-sub-code c = search needs
-
-part-code-start : tie.Need-part-code-start
-part-code-start c = search needs
-
-part-code-end : tie.Need-part-code-end
-part-code-end c = search needs
-
 code-requires : tie.Need-code-requires
 code-requires c κs = pattern (c .before .before .before .before .before .before)
-
-add-stage : tie.Need-add-stage
-add-stage c = search needs
-
-cast-stage : tie.Need-cast-stage
-cast-stage c = search needs
 
 stage-requires : tie.Need-stage-requires
 stage-requires c κs =
@@ -89,9 +44,6 @@ stage-requires c κs =
     let child = code .before .before .before .before .before .before .before in
     let pre = start child .pre in
     pattern-stageable (pre .0) (pre .1) (omega arith) (code .code .ensures ∙ ap codeOf (word child))
-
-same-length-2 : tie.Need-same-length-2
-same-length-2 c = search needs
 
 returns-2 : tie.Need-returns-2
 returns-2 c =
@@ -103,9 +55,6 @@ returns-2 c =
     let is = ap own? (sym (word child)) ∙ (sym (own .is-own .ensures) ∙ code .before .before .before .if2 .taken) in
     leaf-stages (pre .0) (pre .1) (omega arith) (code .code .ensures ∙ ap codeOf (word child)) is (staged .stage .ensures)
 
-same-length-3 : tie.Need-same-length-3
-same-length-3 c = search needs
-
 returns-3 : tie.Need-returns-3
 returns-3 c =
     let child = c .before .before .before .before in
@@ -116,26 +65,26 @@ pub leaf-spec : {M : Type 1} → statement M
 leaf-spec =
     tie.close
     (tie.spec
-    mul-row
-    add-row
-    add-row-2
-    next-requires
-    same-length
+    (λ c. search needs)
+    (λ c. search needs)
+    (λ c. search needs)
+    (λ c κs. search needs)
+    (λ c. search needs)
     returns
-    child-requires
-    sub-start
-    sub-is-own
-    part-is-own-start
-    part-is-own-end
+    (λ c κs. search needs)
+    (λ c. search needs)
+    (λ c. search needs)
+    (λ c. search needs)
+    (λ c. search needs)
     is-own-requires
-    sub-code
-    part-code-start
-    part-code-end
+    (λ c. search needs)
+    (λ c. search needs)
+    (λ c. search needs)
     code-requires
-    add-stage
-    cast-stage
+    (λ c. search needs)
+    (λ c. search needs)
     stage-requires
-    same-length-2
+    (λ c. search needs)
     returns-2
-    same-length-3
+    (λ c. search needs)
     returns-3)

@@ -14,23 +14,8 @@ holds c = built (omega arith) (c .build .ensures)
 count : (c : tie.After-built) → c .built .given .0 .0 ≡ 26
 count c = entries-are (holds (c .before .before .before .before) .reply) (c .built .given .1)
 
-slice-aggregate-build : tie.Need-slice-aggregate-build
-slice-aggregate-build c = search needs
-
-slice-aggregate-build-2 : tie.Need-slice-aggregate-build-2
-slice-aggregate-build-2 c = search needs
-
-slice-aggregate-build-3 : tie.Need-slice-aggregate-build-3
-slice-aggregate-build-3 c = search needs
-
-slice-aggregate-build-4 : tie.Need-slice-aggregate-build-4
-slice-aggregate-build-4 c = search needs
-
 build-requires : tie.Need-build-requires
 build-requires c κs = buildable (omega arith)
-
-enum-known-built : tie.Need-enum-known-built
-enum-known-built c = search needs
 
 enum-told : tie.Need-enum-told
 enum-told c = search needs
@@ -55,9 +40,6 @@ put-entries-requires c κs =
     rw (count told, holds build .front, table-entries)
     (omega (arith, build .before .before .before .before .before .before .pre))
 
-same-length : tie.Need-same-length
-same-length c = search needs
-
 returns-2 : tie.Need-returns-2
 returns-2 c =
     let put = c .before .before in
@@ -68,16 +50,16 @@ pub table-spec : {M : Type 1} → statement M
 table-spec =
     tie.close
     (tie.spec
-    slice-aggregate-build
-    slice-aggregate-build-2
-    slice-aggregate-build-3
-    slice-aggregate-build-4
+    (λ c. search needs)
+    (λ c. search needs)
+    (λ c. search needs)
+    (λ c. search needs)
     build-requires
-    enum-known-built
+    (λ c. search needs)
     enum-told
     returns
     array-share-prefix-index
     slice-aggregate-put-entries
     put-entries-requires
-    same-length
+    (λ c. search needs)
     returns-2)
