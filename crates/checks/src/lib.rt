@@ -4,7 +4,6 @@ use model::Answer;
 use model::LEAST_WORK;
 use model::Refusal;
 ghost use mathlib.Core.Path.{_≡_};
-ghost use mathlib.Core.Bool.{Bool};
 ghost use Prim.Native.Nat.{_+_};
 ghost use lib.Dec.{leb};
 ghost use Rattle.model.specs.Limits.{leastWork};

@@ -10,7 +10,7 @@ use lib.Dec.{ltb}
 use lib.ListN.{length, take}
 use lib.Seq.{take-append-seam}
 use Rattle.model.specs.Limits.{mostVertices, mostEdges, mostLabel, mostLongest, fromUnit, leastWork}
-use Rattle.model.specs.Lists.{_∈_, mem?, next, Rising, Bytes}
+use Rattle.model.specs.Lists.{_∈_, mem?, next, Rising}
 use Rattle.model.specs.Edges.{edgeNumber, fromOf, labelOf, toOf}
 use Rattle.model.proofs.Tests.{test-false, test-yields, test-or, test-lt, test-le, test-mem}
 use Rattle.model.proofs.Lists.{sorted-imp}
@@ -18,7 +18,7 @@ use Rattle.model.proofs.Edges.{IsEdge, test-edge}
 use Rattle.model.proofs.Counting.{no-more, rising-same}
 use Rattle.calls.proofs.Card.{card-good}
 use Rattle.demands.specs.Ledger.{opening, insertion, card, Fed, Book, rising, bookEntries, when, outside, full, openingNumber, namedNumber, inserted, insertionNumber, cardBook, shows, LedgerReply, Turn, turn, Account, ledger}
-use Rattle.demands.specs.Run.Station.{Call, Station, memoryOf, changeOn, after, fedBy}
+use Rattle.demands.specs.Run.Station.{Call, memoryOf, fedBy}
 use Rattle.demands.specs.Terms.{blank, by-opening, by-card}
 use Rattle.demands.specs.Run.Receiving.{receiving, Suffices, ReceivingSame}
 use Rattle.demands.proofs.Rising.{edge-below, rising-rises, rising-in, rising-out}

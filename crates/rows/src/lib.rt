@@ -1,5 +1,4 @@
 // Sets of vertices as rows of bits in work memory: row r is the ROW numbers from r * ROW on, and bit j of it says whether vertex j is in it.
-use model::LEAST_WORK;
 use model::MOST_EDGES;
 use model::MOST_LABEL;
 use model::MOST_LONGEST;

@@ -1,5 +1,5 @@
 -- `bench_c::bench_query` meets its contract: the number of the reply that the query ensures. Assumes nothing.
-use mathlib.Core.Path.{_≡_, sym, ap, _∙_}
+use mathlib.Core.Path.{sym, ap, _∙_}
 use Rattle.model.specs.Replies.{answeredOf}
 use Rattle.bench_c.specs.Bench.{answerNumber}
 use borrow.Author.Needs.{needs}

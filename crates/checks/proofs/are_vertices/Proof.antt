@@ -1,8 +1,6 @@
 -- `checks::are_vertices` meets its contract.
-use mathlib.Core.Path.{_≡_, sym, ap}
-use mathlib.Core.Bool.{Bool, _&&_}
+use mathlib.Core.Path.{sym}
 use native.Mathlib.Omega.{arith}
-use lib.Dec.{ltb}
 use borrow.Author.Tests.{lt-ltb}
 use Rattle.model.proofs.Tests.{test-false}
 use Rattle.calls.proofs.Checks.{test-ends}

@@ -1,9 +1,9 @@
 -- `checks::check_header` meets its contract: each return is the first check that does not pass.
 use mathlib.Core.Path.{_≡_, sym}
-use mathlib.Core.Bool.{true, false}
+use mathlib.Core.Bool.{true}
 use native.Mathlib.Omega.{arith}
 use Rattle.model.proofs.Tests.{test-true, test-false}
-use Rattle.calls.specs.Checks.{vertices?, longest?}
+use Rattle.calls.specs.Checks.{vertices?}
 use Rattle.calls.proofs.Checks.{none, pass, stop, header-is, test-vertices, test-longest}
 use Rattle.checks.proofs.check_header.Statement.{statement}
 use Rattle.checks.proofs.check_header.Tie as tie
