@@ -91,6 +91,13 @@ digits-more b (suc most) n h l =
 pub field-length : (t : List ℕ) (n : ℕ) → length (t ++ number n) ≤ length t + 10
 field-length t n = omega (arith, length-append t (number n), digits-length 10 10 n)
 
+-- where they end at most, whatever is put
+pub field-end : (t : List ℕ) (n : ℕ) {out out′ : List ℕ} {at r : ℕ} → Puts out at (t ++ number n) out′ r → r ≤ at + (length t + 10)
+field-end t n p = omega (arith, p .end, field-length t n)
+
+pub digits-end : (b most n : ℕ) {out out′ : List ℕ} {at r : ℕ} → Puts out at (digits b most n) out′ r → r ≤ at + most
+digits-end b most n p = omega (arith, p .end, digits-length b most n)
+
 pub side-length : (e : ℕ) → length (sideLine e) ≤ 14
 unfolding sideLine
 side-length e = go (ltb e sideUnit)

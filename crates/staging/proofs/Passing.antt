@@ -120,7 +120,8 @@ module _ {w : List ℕ} {d code slots cnt : ℕ} (p : Stageable w d code slots c
       pub through-over-out : slots < k₁ → Stages w Unpicked (EntryBy (StepsTo w) code) slots cnt w₂ k₁
       through-over-out l = stages-over outs l (λ e. ⊎-elim (below-entry e) (λ m. EntryBy.out (outs-same e .0 (m .entry))))
 
-      pub through-hub : k₁ ≤ slots → v < mostVertices → VertexStageable w₂ v code slots k₁
+      -- the in entries can be staged behind any number of entries that fits
+      pub through-hub : {j : ℕ} → j ≤ slots → v < mostVertices → VertexStageable w₂ v code slots j
       through-hub = kept-vertex (outs .keeps)
 
       -- and its in entries

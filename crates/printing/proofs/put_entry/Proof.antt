@@ -3,9 +3,8 @@ use Prim.Native.Nat.{_+_, _≤_}
 use native.Mathlib.Omega.{arith}
 use borrow.Author.Needs.{needs}
 use lib.ListN.{length}
-use Rattle.model.specs.Computed.Query.{hubOf, codeOf}
 use Rattle.printing.specs.Lines.{space}
-use Rattle.printing.proofs.Putting.{puts-then, digits-length, field-length, side-length, entry-is}
+use Rattle.printing.proofs.Putting.{puts-then, field-end, digits-end, side-length, entry-is}
 use Rattle.printing.proofs.put_entry.Statement.{statement}
 use Rattle.printing.proofs.put_entry.Tie as tie
 
@@ -16,19 +15,13 @@ room-side c =
     omega (arith, c .put-side .ensures .end, c .put-side .kept .0, side-length (start .args .entry), start .pre)
 
 room-hub : (c : tie.After-put-field) → c .put-field .result + 7 ≤ length (c .put-field .last .0)
-room-hub c =
-    let side = c .before .before .before .before .before in
-    omega (arith, c .put-field .ensures .end, c .put-field .kept .0, field-length space (hubOf (side .before .before .before .args .entry)), room-side side)
+room-hub c = omega (arith, field-end space _ (c .put-field .ensures), c .put-field .kept .0, room-side (c .before .before .before .before .before))
 
 room-space : (c : tie.After-put) → c .put .result + 6 ≤ length (c .put .last .0)
 room-space c = omega (arith, c .put .ensures .end, c .put .kept .0, room-hub (c .before .before .before .before))
 
 room-labels : (c : tie.After-put-digits) → c .put-digits .result + 2 ≤ length (c .put-digits .last .0)
-room-labels c =
-    let blank = c .before .before .before .before in
-    let hub = blank .before .before .before .before in
-    let side = hub .before .before .before .before .before in
-    omega (arith, c .put-digits .ensures .end, c .put-digits .kept .0, digits-length 16 4 (codeOf (side .before .before .before .args .entry)), room-space blank)
+room-labels c = omega (arith, digits-end _ _ _ (c .put-digits .ensures), c .put-digits .kept .0, room-space (c .before .before .before .before))
 
 put-field-requires : tie.Need-put-field-requires
 put-field-requires c κs = omega (arith, room-side (c .before .before .before .before))

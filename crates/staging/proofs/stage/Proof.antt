@@ -47,7 +47,8 @@ stage-hub-requires : tie.Need-stage-hub-requires Inv-loop μ-loop
 stage-hub-requires c κs =
     let out = c .before .before .before .before in
     let turn = out .before .before in
-    through-hub (start (turn .before) .pre) (turn .before .loop .inv) (out .stage-owner .ensures) (c .before .if1 .left) (omega (arith, turn .loop-test .taken))
+    let loop = turn .before in
+    through-hub (start loop .pre) (loop .loop .inv) (out .stage-owner .ensures) (omega (arith, c .before .if1 .left, loop .loop .inv .fits)) (omega (arith, turn .loop-test .taken))
 
 same-length-2 : tie.Need-same-length-2 Inv-loop μ-loop
 same-length-2 c = len (c .before .before .before)
