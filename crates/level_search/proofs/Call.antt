@@ -41,12 +41,16 @@ module _ {h : Header} {s t : ℕ} {pattern : List ℕ} {m : Memory} {n : ℕ} (p
   front : take size pattern ≡ minRepeat pattern
   front = ap (λ (k : ℕ). take k pattern) is ∙ folded-take pattern keyed
 
-  pub searchable : Searchable (h .vertices) (take n (m .edges)) (take size pattern) s t
-  searchable = rw (edge-memory .front, front) (record {
+  pub part-long : 1 ≤ size
+  part-long = omega (arith, folded, repeat-long pattern (p .keyed .long))
+
+  -- any labels can be searched by, one or more and no more than the pattern has
+  pub searchable : {part : List ℕ} → (1 ≤ length part) × (length part ≤ length pattern) → Searchable (h .vertices) (take n (m .edges)) part s t
+  searchable (a, b) = rw (edge-memory .front) (record {
     vertices-small = layout-header (p .layout) .vertices-most;
     rises = edge-memory .rising;
     valid = edge-memory .edges;
-    short = record { least = repeat-long pattern (p .keyed .long); most = omega (arith, repeat-short pattern (p .keyed .long), keyed .short) };
+    short = record { least = a; most = omega (arith, b, keyed .short) };
     start = p .start-vertex;
     destination = p .destination-vertex;
   })

@@ -34,10 +34,10 @@ add-if1 : tie.Need-add-if1
 add-if1 c = omega (arith, few c)
 
 returns-2 : tie.Need-returns-2
-returns-2 c = write-short _ _ (layout (c .before)) (c .if1 .taken)
+returns-2 c = write-short _ _ (layout (c .before)) (omega (arith, c .if1 .taken))
 
 returns-3 : tie.Need-returns-3
-returns-3 c = writes _ _ (layout (c .before)) (c .if1 .left)
+returns-3 c = writes _ _ (layout (c .before)) (omega (arith, c .if1 .left))
 
 pub check-write-spec : {M : Type 1} → statement M
 check-write-spec =

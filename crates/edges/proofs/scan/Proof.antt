@@ -21,10 +21,10 @@ abbrev μ-loop : tie.MeasureT-loop
 μ-loop vertices edges i₀ prev₀ i prev = length edges - i
 
 returns : tie.Need-returns Inv-loop μ-loop
-returns c = sym (scan-long _ _ (c .if1 .taken))
+returns c = sym (scan-long _ _ (omega (arith, c .if1 .taken)))
 
 loop-holds : tie.Need-loop-holds Inv-loop μ-loop
-loop-holds c = (omega arith, scan-start _ _ (c .if1 .left))
+loop-holds c = (omega arith, scan-start _ _ (omega (arith, c .if1 .left)))
 
 -- slot i is read
 module _ (at : tie.After-shared-slice-known2 Inv-loop μ-loop) where

@@ -55,7 +55,7 @@ returns : tie.Need-returns Inv-loop μ-loop
 returns c =
     let done = c .before .before .before .before in
     let turn = done .before .before .before in
-    built-yes _ _ _ _ _ _ (turn .before .before .before .before .before .before .pre .0) (turn .before .loop .inv .0) (turn .loop-test .taken) (done .next-level .ensures) (c .if1 .taken)
+    built-yes _ _ _ _ _ _ (turn .before .before .before .before .before .before .pre .0) (turn .before .loop .inv .0) (omega (arith, turn .loop-test .taken)) (done .next-level .ensures) (c .if1 .taken)
 
 same-length-2 : tie.Need-same-length-2 Inv-loop μ-loop
 same-length-2 c =
@@ -67,7 +67,7 @@ returns-2 : tie.Need-returns-2 Inv-loop μ-loop
 returns-2 c =
     let done = c .before .before .before .before .before in
     let turn = done .before .before .before in
-    built-no _ _ _ _ _ _ (turn .before .before .before .before .before .before .pre .0) (turn .before .loop .inv .0) (turn .loop-test .taken) (done .next-level .ensures) (c .if2 .taken)
+    built-no _ _ _ _ _ _ (turn .before .before .before .before .before .before .pre .0) (turn .before .loop .inv .0) (omega (arith, turn .loop-test .taken)) (done .next-level .ensures) (c .if2 .taken)
 
 loop-less : tie.Need-loop-less Inv-loop μ-loop
 loop-less c =
@@ -79,13 +79,13 @@ loop-again : tie.Need-loop-again Inv-loop μ-loop
 loop-again c =
     let done = c .before .before .before .before .before in
     let turn = done .before .before .before in
-    (built-on _ _ _ _ _ _ (turn .before .before .before .before .before .before .pre .0) (turn .before .loop .inv .0) (turn .loop-test .taken) (done .next-level .ensures) (c .before .if1 .left) (c .if2 .left), done .next-level .ensures .len ∙ turn .before .loop .inv .1)
+    (built-on _ _ _ _ _ _ (turn .before .before .before .before .before .before .pre .0) (turn .before .loop .inv .0) (omega (arith, turn .loop-test .taken)) (done .next-level .ensures) (c .before .if1 .left) (c .if2 .left), done .next-level .ensures .len ∙ turn .before .loop .inv .1)
 
 same-length-3 : tie.Need-same-length-3 Inv-loop μ-loop
 same-length-3 c = c .before .loop .inv .1 ∙ simp length-set
 
 returns-3 : tie.Need-returns-3 Inv-loop μ-loop
-returns-3 c = built-spent _ _ _ _ _ _ (c .before .loop .inv .0) (c .loop-test .left)
+returns-3 c = built-spent _ _ _ _ _ _ (c .before .loop .inv .0) (omega (arith, c .loop-test .left))
 
 pub levels-spec : {M : Type 1} → statement M
 levels-spec =

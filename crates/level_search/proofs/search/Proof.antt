@@ -1,11 +1,12 @@
 -- `level_search::search` meets its contract: a refusal leaves work memory alone, and a search is over the standing edges and the minimum repeat.
 use mathlib.Core.Path.{sym}
 use mathlib.Core.List.{[]}
+use native.Mathlib.Omega.{arith}
 use borrow.Author.Needs.{needs}
 use lib.Seq.{length-take-le}
 use Rattle.calls.specs.Call.{lent}
 use Rattle.level_search.specs.Run.{SearchPasses}
-use Rattle.level_search.proofs.Call.{part-edges, part-pattern, searchable, meets, search-refused}
+use Rattle.level_search.proofs.Call.{part-edges, part-long, part-pattern, searchable, meets, search-refused}
 use Rattle.level_search.proofs.search.Statement.{statement}
 use Rattle.level_search.proofs.search.Tie as tie
 
@@ -22,10 +23,15 @@ slice-aggregate-run : tie.Need-slice-aggregate-run
 slice-aggregate-run c = sym (length-take-le _ (c .before .before .before .before .before .before .before .before .before .before .args .edges .now) (part-edges (passed (c .before)) _ (c .before .minimum-repeat .ensures)))
 
 slice-aggregate-run-2 : tie.Need-slice-aggregate-run-2
-slice-aggregate-run-2 c = sym (length-take-le _ (c .before .before .before .before .before .before .before .before .before .before .before .args .pattern .now) (part-pattern (passed (c .before .before)) _ (c .before .before .minimum-repeat .ensures)))
+slice-aggregate-run-2 c = sym (length-take-le _ (start (c .before .before) .args .pattern .now) (omega (arith, part-pattern (passed (c .before .before)) _ (c .before .before .minimum-repeat .ensures))))
 
 run-requires : tie.Need-run-requires
-run-requires c κs = (searchable (passed (c .before .before .before)) _ (c .before .before .before .minimum-repeat .ensures), passed (c .before .before .before) .room)
+run-requires c κs =
+    let folded = c .before .before .before in
+    let p = passed folded in
+    let least = part-long p _ (folded .minimum-repeat .ensures) in
+    let most = part-pattern p _ (folded .minimum-repeat .ensures) in
+    (searchable p _ (folded .minimum-repeat .ensures) (omega (arith, slice-aggregate-run-2 (c .before), least, most)), p .room)
 
 returns : tie.Need-returns
 returns c = search-refused _ _ _ _ _ _ (c .before .checked .given .0 .0) (rw (c .before .checked .given .1) at (c .before .before .before .check .ensures))
