@@ -11,7 +11,7 @@
  *   record   2 numbers: vertices (1 to 256), longest pattern k (1 to 4)
  *   edges    edge memory, 0 to 1,024 slots: one edge a slot, from * 4096 + label * 256 + to, strictly rising, then zeros
  *   index    index memory, any number of slots: one entry a slot, strictly rising, then zeros
- *   work     at least 4,096 numbers; where an index is built (insert, remove, read card) one more for each index
+ *   work     at least 4,096 numbers; if an index is built (insert, remove, read card), one more for each index
  *            slot. Contents do not matter. Zero after an accepted call and after refusal 13, else untouched.
  *
  * A slice is a pointer and then its number of elements. Elements must be aligned as their C type asks. A slice
@@ -19,7 +19,7 @@
  * another thread or an interrupt while the call runs. Stack use, as measured on x86-64: below 24 KiB for insert,
  * remove and read card, 12 KiB for a query, 4 KiB for the others.
  *
- * A refused call changes nothing that was lent, but that refusal 13 zeroes work memory.
+ * A refused call changes nothing that was lent, except that refusal 13 zeroes work memory.
  */
 #ifndef RLC_H
 #define RLC_H

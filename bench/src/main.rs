@@ -23,7 +23,7 @@ extern "C" {
 }
 
 /// The proved access order and index, in one go. The layouts have rising edges of 256 vertices, and work memory has 4,096 numbers and
-/// one for each slot, as the calls require. The number of entries is more than the slots where they do not fit.
+/// one for each slot, as the calls require. The number of entries is more than the slots if they do not fit.
 fn proved_build(longest: u32, edges: &[u32], order: &mut [u8; 256], index: &mut [u64], work: &mut [u64]) -> usize {
     assert!(work.len() >= 4096 + index.len() && (1..=4).contains(&longest) && edges.len() <= 1024);
     let (m, n, slots, w) = (edges.len(), order.len(), index.len(), work.len());

@@ -1,5 +1,5 @@
 //! The papers' pruned search, as a plain Rust program: pattern by pattern, for each vertex u in access order, a search back from u and
-//! one forth from u over whole-pattern steps. A stop is dropped, and not gone on from, where it is earlier than u or where the entries
+//! one forth from u over whole-pattern steps. A stop is dropped, and not gone on from, if it is earlier than u or if the entries
 //! found so far answer for it already (rule PR3). Places inside a pattern are not stops and are not dropped.
 //!
 //! Vertices are numbered by rank in access order while the search runs, so that earlier is lower.
@@ -234,7 +234,7 @@ fn is_entry(vertices: u32, longest: u32, x: u64) -> bool {
     x >> 32 < 2 && x >> 24 & 255 < vertices as u64 && x >> 16 & 255 < vertices as u64 && is_code(longest, x & 65535)
 }
 
-/// Check 12 and the question, for a pattern that is its own minimum repeat. None where check 12 fails.
+/// Check 12 and the question, for a pattern that is its own minimum repeat. None if check 12 fails.
 pub fn query(vertices: u32, longest: u32, s: u64, t: u64, code: u64, index: &[u64]) -> Option<bool> {
     let count = index.iter().position(|&x| x == 0).unwrap_or(index.len());
     let (entries, zeros) = index.split_at(count);

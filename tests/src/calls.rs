@@ -2,9 +2,9 @@
 //! order: the first is the reply, an empty list is acceptance. What the others are good for is the count of pairs
 //! of refusals that applied at once.
 //!
-//! A later condition is judged as far as it has a meaning where an earlier one applies: 7, 8, 9, 13 and 17
-//! where edge memory reads as rising edges of some layout, and 13 by patterns of at most 2 labels (longer ones
-//! only add entries).
+//! If an earlier condition applies, a later one is judged as far as it has a meaning: 7, 8, 9, 13 and 17 if edge
+//! memory reads as rising edges of some layout, and 13 by patterns of at most 2 labels (longer ones only add
+//! entries).
 
 use crate::reference::*;
 use std::collections::BTreeSet;
@@ -108,7 +108,7 @@ pub fn change(insertion: bool, record: Record, edge: Edge, memory: &mut Memory) 
     settle(refusals, &wanted, record[1], memory)
 }
 
-/// The question: its refusals, and yes or no where there are none.
+/// The query (question): its refusals, and yes or no if there are none.
 pub fn query(record: Record, start: u32, destination: u32, pattern: &[u8], index: &[u64]) -> (Refusals, bool) {
     let [vertices, longest] = record;
     let refusals = applying(&[
@@ -131,7 +131,7 @@ pub struct Check {
     pub allowed: u32,
 }
 
-/// The plain check: its refusals, and what it found where there are none.
+/// The level search (plain check): its refusals, and what it found if there are none.
 pub fn search(record: Record, check: &Check, edges: &[u32], work: &mut [u64]) -> (Refusals, Found) {
     let [vertices, longest] = record;
     let refusals = applying(&[
@@ -160,7 +160,7 @@ pub fn card_of(record: Record, edges: &[Edge]) -> Vec<u8> {
     card
 }
 
-/// Card reading: its refusals, and the card's record where there are none.
+/// Card reading: its refusals, and the card's record if there are none.
 pub fn read_card(card: &[u8], memory: &mut Memory) -> (Refusals, Option<Record>) {
     let vertices = card.get(5).map_or(0, |byte| *byte as u32 + 1);
     let longest = card.get(6).map_or(0, |byte| *byte as u32);
@@ -182,7 +182,7 @@ pub fn read_card(card: &[u8], memory: &mut Memory) -> (Refusals, Option<Record>)
     (refusals, record)
 }
 
-/// Card writing: its refusals, and the card's length where there are none.
+/// Card writing: its refusals, and the card's length if there are none.
 pub fn write_card(record: Record, edges: &[u32], output: &mut [u8]) -> (Refusals, usize) {
     let standing = standing(edges).unwrap_or_default();
     let length = 9 + 3 * standing.len();

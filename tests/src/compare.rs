@@ -156,7 +156,7 @@ impl Tester {
         expected
     }
 
-    /// Card reading. Returns the reply, and the record where accepted.
+    /// Card reading. Returns the reply, and the record if accepted.
     pub fn read_card(&mut self, card: &[u8], memory: &mut Memory) -> (u32, Option<Record>) {
         let before = memory.clone();
         let given = [self.rng.next() as u32, self.rng.next() as u32];

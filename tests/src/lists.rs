@@ -141,7 +141,7 @@ fn ask(t: &mut Tester, layout: &Layout, record: Record, memory: &mut Memory) {
     }
 }
 
-/// Where entries are struck out and the others close up, the query of each struck one is answered no.
+/// If entries are struck out and the others close up, the query of each struck one is answered no.
 fn strike_out(t: &mut Tester, record: Record, memory: &Memory) {
     let entries: Vec<u64> = memory.index.iter().copied().filter(|slot| *slot != 0).collect();
     if entries.is_empty() {

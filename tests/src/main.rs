@@ -2,8 +2,8 @@
 //! definitions.
 //!
 //! rlc_tests [SEED [ROUNDS [FIRST]]]: the fixed parts, then rounds FIRST, FIRST + 1, ... of random ones. A
-//! round's inputs depend on the seed and its number only. Status 0 and a summary where all agrees; 1 at the
-//! first disagreement, or where a refusal or a pair of refusals was not reached.
+//! round's inputs depend on the seed and its number only. Status 0 and a summary if all agrees; 1 at the
+//! first disagreement, or if a refusal or a pair of refusals was not reached.
 
 mod bounds;
 mod calls;

@@ -54,14 +54,14 @@ fn force_record(t: &mut Tester, forced: &[u32], layout: &mut Layout) {
         layout.record[0] = gen::no_vertices(&mut t.rng);
     }
     if forced.contains(&2) {
-        // Where entries are to be needed, k is too large and not 0.
+        // If entries are to be needed, k is too large and not 0.
         let longest = gen::no_longest(&mut t.rng);
         layout.record[1] = if forced.contains(&13) { longest.max(5) } else { longest };
     }
 }
 
 /// Edge memory, for 3 of one of the kinds that leave room for the other refusals: an edge of a larger layout,
-/// too many slots, or (where no other condition looks into it) damaged slots.
+/// too many slots, or (if no other condition looks into it) damaged slots.
 fn force_edges(t: &mut Tester, forced: &[u32], layout: &mut Layout, edges: &mut Vec<Edge>, full: bool) -> Vec<u32> {
     let more = if full { 0 } else { t.rng.from_to(1, 4) };
     if !forced.contains(&3) {

@@ -31,7 +31,7 @@ pub fn rising<T: PartialOrd>(list: &[T]) -> bool {
     list.windows(2).all(|pair| pair[0] < pair[1])
 }
 
-/// Edge memory read as edges of the largest layout, strictly rising, then zeros; None where it is not that.
+/// Edge memory read as edges of the largest layout, strictly rising, then zeros; None if it is not that.
 pub fn standing(memory: &[u32]) -> Option<Vec<Edge>> {
     let count = memory.iter().position(|slot| *slot == 0).unwrap_or(memory.len());
     let (filled, rest) = memory.split_at(count);

@@ -21,7 +21,7 @@ pub extern "C" fn bench_order(vertices: u32, edges: &[u32], work: &mut [u64], or
     order::counted(vertices, edges, work, order);
 }
 
-// The index, as build::build: how many entries it has, or 2^64 - 1 where they are too many.
+// The index, as build::build: how many entries it has, or 2^64 - 1 if they are too many.
 #[no_mangle]
 pub extern "C" fn bench_build(
     vertices: u32,

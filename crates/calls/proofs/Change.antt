@@ -38,7 +38,7 @@ pass-first ((zero, b) ∷ l) later q e = absurd q
 pass-first ((suc n, true) ∷ l) later q e = pass-first l later q e
 pass-first ((suc n, false) ∷ l) later q e = absurd (omega arith)
 
--- where none of them refuses, none of the first does
+-- if none of them refuses, none of the first does
 pub front-passes : (l later : List Check) → firstRefusal (l ++ later) ≡ 0 → firstRefusal l ≡ 0
 front-passes l later e = elim (decLt 0 (firstRefusal l)) [ yes h ↦ absurd (omega (arith, stop-first l later refl h, e, h)) | no h ↦ omega (arith, h) ]
 

@@ -28,7 +28,7 @@ numbered? [] = true
 numbered? ((zero, b) ∷ l) = false
 numbered? ((suc n, b) ∷ l) = numbered? l
 
--- where none refuses, each passes
+-- if none refuses, each passes
 pub data Passed : List Check → Type 0 where
   done : Passed []
   also : {n : ℕ} {b : Bool} {l : List Check} → b ≡ true → Passed l → Passed ((n, b) ∷ l)

@@ -1,4 +1,4 @@
--- What a call comes to that ends in settling: accepted where every check passes and the entries fit, else refused with the first number.
+-- What a call comes to that ends in settling: accepted if every check passes and the entries fit, else refused with the first number.
 use mathlib.Core.Path.{_≡_, refl, ap}
 use mathlib.Core.Bool.{Bool, true, false}
 use mathlib.Core.List.{List, [], _∷_, _++_}

@@ -69,7 +69,7 @@ pub fn is_longest(longest: u32) -> bool
     longest <= MOST_LONGEST
 }
 
-// Check 4 where an index is built: at least 4,096 numbers, and one more for each index slot.
+// Check 4, if an index is built: at least 4,096 numbers, and one more for each index slot.
 pub fn has_room(slots: usize, numbers: usize) -> bool
     ensures { λ r. ⌜ r ≡ leb (leastWork + slots) numbers ⌝ }
 {

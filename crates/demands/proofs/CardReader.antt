@@ -37,15 +37,15 @@ module _ (bytes : List ℕ) where
 
   module _ (vertices : ℕ) where
     -- the bytes of edge i name an edge of a layout with so many vertices
-    abbrev Edge : ℕ → Type 0
-    Edge i =
+    abbrev ValidTriple : ℕ → Type 0
+    ValidTriple i =
         ((byte bytes (9 + 3 * i) < vertices) × (byte bytes (11 + 3 * i) < vertices))
         × ((1 ≤ byte bytes (10 + 3 * i)) × (byte bytes (10 + 3 * i) ≤ 8))
 
     -- n edges from edge a on, which rise from above prev: as the calls read them
     abbrev Rises : (prev a n : ℕ) → Type 0
     Rises prev a zero = Unit {0}
-    Rises prev a (suc n) = Edge a × ((prev < edgeAt bytes a) × Rises (edgeAt bytes a) (suc a) n)
+    Rises prev a (suc n) = ValidTriple a × ((prev < edgeAt bytes a) × Rises (edgeAt bytes a) (suc a) n)
 
     test-rises : (prev a n : ℕ) → length bytes ≡ 9 + 3 * (a + n) → Tests (risingTriples? vertices prev (drop (9 + 3 * a) bytes)) (Rises prev a n)
     unfolding risingTriples?
@@ -59,7 +59,7 @@ module _ (bytes : List ℕ) where
 
     -- as the ledger reads them
     record RightBytes (a n : ℕ) : Type 0 where
-      edges : (i : ℕ) → a ≤ i → i < a + n → Edge i
+      edges : (i : ℕ) → a ≤ i → i < a + n → ValidTriple i
       up : (i : ℕ) → a ≤ i → i + 1 < a + n → edgeAt bytes i < edgeAt bytes (i + 1)
 
     rises-right : (prev a n : ℕ) → Rises prev a n → RightBytes a n
@@ -99,19 +99,19 @@ module _ (bytes : List ℕ) where
       ((v ≤ byte bytes (9 + 3 * i)) ⊎ (v ≤ byte bytes (11 + 3 * i)))
       ⊎ ((byte bytes (10 + 3 * i) < 1) ⊎ (8 < byte bytes (10 + 3 * i)))
 
-  test-stray : (i : ℕ) → Tests (stray bytes i) (¬ (Edge v i))
+  test-stray : (i : ℕ) → Tests (stray bytes i) (¬ (ValidTriple v i))
   test-stray i =
       test-map there back
       (test-or (test-or (test-le v (byte bytes (9 + 3 * i))) (test-le v (byte bytes (11 + 3 * i))))
       (test-or (test-lt (byte bytes (10 + 3 * i)) 1) (test-lt 8 (byte bytes (10 + 3 * i)))))
     where
-      there : Off i → ¬ (Edge v i)
+      there : Off i → ¬ (ValidTriple v i)
       there (inl (inl h)) ((a, b), (c, d)) = omega (arith, h, a)
       there (inl (inr h)) ((a, b), (c, d)) = omega (arith, h, b)
       there (inr (inl h)) ((a, b), (c, d)) = omega (arith, h, c)
       there (inr (inr h)) ((a, b), (c, d)) = omega (arith, h, d)
 
-      back : ¬ (Edge v i) → Off i
+      back : ¬ (ValidTriple v i) → Off i
       back no-edge =
           elim (decLt (byte bytes (9 + 3 * i)) v) [
             | no h ↦ inl (inl (omega (arith, h)))
@@ -127,14 +127,14 @@ module _ (bytes : List ℕ) where
             ]
           ]
 
-  edge-known : (i : ℕ) → ¬ (¬ (Edge v i)) → Edge v i
+  edge-known : (i : ℕ) → ¬ (¬ (ValidTriple v i)) → ValidTriple v i
   edge-known i h =
       elim (test-dec (test-and (test-and (test-lt (byte bytes (9 + 3 * i)) v) (test-lt (byte bytes (11 + 3 * i)) v))
       (test-and (test-le 1 (byte bytes (10 + 3 * i))) (test-le (byte bytes (10 + 3 * i)) 8)))) [ yes l ↦ l | no d ↦ absurd (h d) ]
 
   abbrev Wrong : Type 0
   Wrong =
-      ((i : ℕ) × List·Memᴰ i (upTo n) × (¬ (Edge v i)))
+      ((i : ℕ) × List·Memᴰ i (upTo n) × (¬ (ValidTriple v i)))
       ⊎ ((i : ℕ) × List·Memᴰ i (upTo (n - 1)) × (edgeAt bytes (i + 1) ≤ edgeAt bytes i))
 
   test-right : Tests (not (any? (stray bytes) (upTo n) || any? (falls bytes) (upTo (n - 1)))) (RightBytes v 0 n)

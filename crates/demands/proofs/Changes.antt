@@ -54,7 +54,7 @@ module _ {slots room : ℕ} {b : Book} (f : Fine slots room b) (from label to : 
   stands : standing (filled slots L) ≡ L
   stands = standing-filled slots L (λ z k. omega (arith, edge-least (b .vertices) z (listed z k)))
 
-  -- what is known of the named edge where its checks have passed
+  -- what is known of the named edge once its checks have passed
   record NamedEdge : Type 0 where
     valid : edge? (b .vertices) x ≡ true
     below : x < mostVertices * fromUnit
@@ -90,7 +90,7 @@ module _ {slots room : ℕ} {b : Book} (f : Fine slots room b) (from label to : 
       five : leb (b .vertices) from || leb (b .vertices) to ≡ not (ends? (b .vertices) from to)
       five = rw (from-not from (b .vertices), from-not to (b .vertices)) (either-not (ltb from (b .vertices)) (ltb to (b .vertices)))
 
-  -- the named edge stands where the ledger has it
+  -- the named edge stands if the ledger has it
   known : NamedEdge → mem? x (standing (filled slots L)) ≡ mem? x (b .edges)
   known q = rw stands (test-agree (test-mem x L) (test-map (λ k. rising-in (b .edges) (q .below) k) (λ k. rising-out (b .edges) k) (test-mem x (b .edges))))
 

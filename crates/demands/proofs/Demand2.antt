@@ -66,7 +66,7 @@ wrote h w {n} e = go (writeRefusal h w) refl e
           };
         }
 
--- a card that passes its own checks is accepted where memory has room for it
+-- a card that passes its own checks is accepted if memory has room for it
 read-accepted : (card : List ℕ) (m : Memory) {h : Header} {edges : List ℕ} → CardSays card h edges → Roomy m (length edges) (length (determined (graphOf h edges)))
     → readCall card m ≡ settledChange h edges m
 unfolding readCall readRefusal

@@ -64,7 +64,7 @@ entry-some n k zero e = absurd (not-coded k (test-yields (test-entry n k 0) e .c
 entry-some n k (suc x) e = omega arith
 
 module _ (vertices longest : ℕ) where
-  -- for any such entries, so also for what is left where some are struck out and the others closed up
+  -- for any such entries, so also for what is left if some are struck out and the others closed up
   pub memory-passes : (slots : ℕ) (l : List ℕ) → Rising l → ((x : ℕ) → x ∈ l → entry? vertices longest x ≡ true)
       → indexMemory? vertices longest (filled slots l) ≡ true
   unfolding indexMemory? risingEntries?
@@ -96,7 +96,7 @@ module _ (g : Graph) (order : List ℕ) (small : Small g) (slots : ℕ) where
         λ r. same ∙ test-true tests (right g order small q .1 r),
       )
 
-  -- a question, once its pattern is folded, is answered yes where a walk runs it, and there alone
+  -- a question, once its pattern is folded, is answered yes if a walk runs it, and only then
   pub answer-right : {pattern : List ℕ} {start destination : ℕ} → start < g .vertices → destination < g .vertices → Keyed (g .longest) pattern
       → (answers? (g .vertices) (filled slots (entries g order)) (minRepeat pattern) start destination ≡ true)
       ↔ Runs g (minRepeat pattern) start destination

@@ -17,7 +17,7 @@ use Rattle.model.proofs.Lists.{part-all}
 
 module _ {A : Type 0} (found : ℕ → A) (invalid : A) where
   module _ (f : ℕ → Bool) where
-    -- what is found where i numbers stand before s, the last of them prev
+    -- what is found if i numbers stand before s, the last of them prev
     abbrev pub checkedFrom : ℕ → ℕ → List ℕ → A
     checkedFrom prev i s = cond (rising? f prev s) (found (i + length (standing s))) invalid
 

@@ -1,4 +1,4 @@
--- Halving: the two ends bracket the slot where a key belongs, and what that slot says of the key.
+-- Binary search: the two ends bracket the slot where a key belongs, and what that slot says of the key.
 use mathlib.Core.Path.{_≡_, sym}
 use mathlib.Core.Logic.{_≢_}
 use mathlib.Core.Bool.{false}

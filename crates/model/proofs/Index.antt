@@ -47,7 +47,7 @@ module _ {g : Graph} {order : List ℕ} (small : Small g) {s t : ℕ} {l : List 
   in-entry (into s′ t′ l′ q′ u ne e) = let (_, b, a, c) = number-same 1 1 small (swap q) (swap q′) e in rw (a, b, c) (u, ne)
 
 module _ {g : Graph} {order : List ℕ} (small : Small g) {es : List ℕ} (only : (e : ℕ) → e ∈ es → IsEntry g order e) where
-  -- SOUND: a list of determined entries says yes only where a walk runs
+  -- SOUND: a list of determined entries says yes only if a walk runs
   pub sound : {s t : ℕ} {l : List ℕ} → Asked g l s t → Answers (g .vertices) es l s t → Runs g l s t
   sound q (target h) = (out-entry small q (only _ h)) .stop .walk
   sound q (source h) = (in-entry small q (only _ h)) .0 .stop .walk
@@ -105,7 +105,7 @@ dec-or (yes p) d = yes (inl p)
 dec-or (no p) (yes q) = yes (inr q)
 dec-or (no p) (no q) = no (⊎-elim p q)
 
--- where walks are decided, one of their stops is the earliest
+-- if walks are decided, one of their stops is the earliest
 pub earliest : {g : Graph} (order : List ℕ) {l : List ℕ} {s t : ℕ} → ((a b : ℕ) → a < g .vertices → b < g .vertices → Dec (Runs g l a b))
     → s < g .vertices → Runs g l s t → (u : ℕ) × Earliest g order l s t u
 earliest {g} order {l} {s} {t} dec h r =

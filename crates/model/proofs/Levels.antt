@@ -166,7 +166,7 @@ module _ (g : Graph) (l : List ℕ) where
           let (x, k, led) = r .source in
           arrive x z (r .is-state) (arrived i x k) led .0
 
-      -- where a level from 1 on has (t, 0), a walk from s to t runs l
+      -- if a level from 1 on has (t, 0), a walk from s to t runs l
       pub level-runs : (i t : ℕ) → t < g .vertices → t ∈ level g l s (suc i) → Runs g l s t
       level-runs i t ht m =
           let r = level-iff i t .0 m in
@@ -175,7 +175,7 @@ module _ (g : Graph) (l : List ℕ) where
           let u : usedOf t ≡ 0 = omega arith in
           rw v at (arrive x t (r .is-state) (arrived i x k) led .1 u)
 
-  -- ---- where a level is empty, the levels before it had all that edges of the next labels lead to
+  -- ---- if a level is empty, the levels before it had all that edges of the next labels lead to
 
   -- what holds of each such state holds where a walk ends
   module _ (small : g .vertices ≤ mostVertices) (full : 1 ≤ length l) (P : ℕ → Type 0) (step : (x z : ℕ) → P x → IsState g l z → Leads (g .edges) l x z → P z) where

@@ -36,7 +36,7 @@ pub record Lost (g : Graph) (index : List ℕ) : Type 0 where
   pub answered-no : ¬ Answers (g .vertices) index pattern start destination
 
 module _ (g : Graph) (order : List ℕ) (small : Small g) where
-  -- the query on the determined entries is yes where a walk runs the pattern, and there alone
+  -- the query on the determined entries is yes if a walk runs the pattern, and only then
   pub right : {l : List ℕ} {s t : ℕ} → Asked g l s t → Answers (g .vertices) (entries g order) l s t ↔ Runs g l s t
   right {l} q = (
     sound small (λ e m. entries-out g order small m) q,

@@ -97,7 +97,7 @@ module _ (g : Graph) (l : List ℕ) (s t : ℕ) where
         let m = level-all g l small full s c t (empty-out (level g l s (suc c)) e) r in
         q (m .at) (m .first) (m .last) .0 (rw (state-zero t) (m .stands))
 
-    -- "An allowance of 1,025 always gives yes or no": yes where a walk runs l, and there alone
+    -- "An allowance of 1,025 always gives yes or no": yes if a walk runs l, and only then
     pub decides : (limit : ℕ) → enoughLevels ≤ limit → length l ≤ mostLongest → Decides g l s t (levelReply g l s t limit)
     decides limit enough short = go (levelReply g l s t limit) (told limit)
       where

@@ -8,7 +8,7 @@ use lib.Dec.{T, eqb, leb, ltb, eqb→eq, eqb-refl, leb→le, le→leb}
 use Rattle.model.specs.Lists.{any?, mem?}
 use Rattle.model.specs.Computed.Lists.{all?, same?}
 
--- b is true where P holds, and there alone
+-- b is true if P holds, and only then
 pub record Tests (b : Bool) (P : Type 0) : Type 0 where
   pub yields : T b → P
   pub passes : P → T b
@@ -16,7 +16,7 @@ pub record Tests (b : Bool) (P : Type 0) : Type 0 where
 pub test-map : {b : Bool} {P Q : Type 0} → (P → Q) → (Q → P) → Tests b P → Tests b Q
 test-map f g p = record { yields = λ t. f (p .yields t); passes = λ q. p .passes (g q) }
 
--- what a test answers where its statement is known
+-- what a test answers if its statement is known
 pub test-true : {b : Bool} {P : Type 0} → Tests b P → P → b ≡ true
 test-true {b = true} t p = refl
 test-true {b = false} t p = absurd (t .passes p)

@@ -31,7 +31,7 @@ numberOf CardVersion = 15
 numberOf CardEdges = 16
 numberOf CardOutput = 17
 
--- the number of an answer, 0 where it is accepted
+-- the number of an answer, 0 if it is accepted
 abbrev pub answerOf : Answer → ℕ
 answerOf Accepted = 0
 answerOf (NotAccepted r) = numberOf r

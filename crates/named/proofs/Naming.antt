@@ -68,7 +68,7 @@ module _ {h : Header} {from label to : ℕ} {m : Memory} where
     in-false : Finds h from label to m n (Before at) → mem? (edgeNumber from label to) (standing (m .edges)) ≡ false
     in-false f = test-false (test-mem _ (standing (m .edges))) (lacked f .absent)
 
-    -- insertion: 7 where the edge stands, then 9 where all slots are taken
+    -- insertion: 7 if the edge stands, then 9 if all slots are taken
     pub insert-present : Finds h from label to m n (At at) → insertRefusal h from label to m ≡ 7
     unfolding changeRefusal insertRefusal
     insert-present f = pass-first (changeChecks h from label to m) _ tt (f .passes .is) ∙ first-is (stop (ap not (in-true f)))
@@ -90,7 +90,7 @@ module _ {h : Header} {from label to : ℕ} {m : Memory} where
           place = record { holds = memory (f .passes) .holds; place = lacked f .place; room = l };
         }
 
-    -- removal: 8 where the edge does not stand
+    -- removal: 8 if the edge does not stand
     pub remove-absent : Finds h from label to m n (Before at) → removeRefusal h from label to m ≡ 8
     unfolding changeRefusal removeRefusal
     remove-absent f = pass-first (changeChecks h from label to m) _ tt (f .passes .is) ∙ first-is (stop (in-false f))

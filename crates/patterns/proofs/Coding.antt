@@ -13,7 +13,7 @@ pub code-more : (a i : ℕ) (l : List ℕ) → i < length l → codeFrom (a * di
 unfolding codeFrom
 code-more a i l h = rw (add-one, drop-cons l i 0)
 
--- and where none are left, `a` is the code
+-- and if none are left, `a` is the code
 pub code-end : {a i : ℕ} (l : List ℕ) → length l ≤ i → codeFrom a (drop i l) ≡ code l → a ≡ code l
 unfolding codeFrom
 code-end l h e = rw (drop-of-length-le l h) at e

@@ -1,4 +1,4 @@
--- Words that repeat: a list of j * d elements is its first d, written j times, where each element from index d on is the one d before it.
+-- Words that repeat: a list of j * d elements is its first d, written j times, if each element from index d on is the one d before it.
 use mathlib.Core.Path.{_≡_, refl, sym, ap, _∙_}
 use mathlib.Core.List.{List, [], _∷_, _++_, append-nil, append-assoc}
 use Prim.Native.Nat.{ℕ, zero, suc, _+_, _-_, _*_, _≤_, _<_}

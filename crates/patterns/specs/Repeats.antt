@@ -11,6 +11,6 @@ use Rattle.model.specs.Computed.Patterns.{repeatFrom}
 unfoldable pub repeats? : List ℕ → ℕ → Bool
 repeats? l d = same? (times (length l / d) (take d l)) l
 
--- the length of the minimum repeat where lengths below d are tried already
+-- the length of the minimum repeat if lengths below d are tried already
 unfoldable pub lengthFrom : List ℕ → ℕ → ℕ
 lengthFrom l d = length (repeatFrom (suc (length l) - d) d l)

@@ -3,7 +3,7 @@ use mathlib.Core.Path.{_≡_, refl}
 use mathlib.Core.List.{List, [], _∷_, _++_}
 use Prim.Native.Nat.{ℕ}
 use Rattle.model.specs.Computed.Lists.{spread}
-use Rattle.printing.specs.Lines.{digits, sideLine, entryLine, headerLine, refusedLine, listing}
+use Rattle.printing.specs.Lines.{numeral, sideLine, entryLine, headerLine, refusedLine, listing}
 
 -- "Output, whole", line by line
 abbrev pub header : List ℕ
@@ -26,10 +26,10 @@ in-2-1-1 = 105 ∷ 110 ∷ 32 ∷ 50 ∷ 32 ∷ 49 ∷ 32 ∷ 49 ∷ 10 ∷ []
 
 pub listing-A : listing 3 2 3 (18 ∷ 65537 ∷ 16842785 ∷ 4295032834 ∷ 4328587265 ∷ [])
     ≡ header ++ (out-0-0-12 ++ (out-0-1-1 ++ (out-1-1-21 ++ (in-0-1-2 ++ in-2-1-1))))
-unfolding digits sideLine entryLine headerLine listing spread
+unfolding numeral sideLine entryLine headerLine listing spread
 listing-A = refl
 
 -- "as `refused 14`"
 pub refused-14 : refusedLine 14 ≡ 114 ∷ 101 ∷ 102 ∷ 117 ∷ 115 ∷ 101 ∷ 100 ∷ 32 ∷ 49 ∷ 52 ∷ 10 ∷ []
-unfolding digits refusedLine
+unfolding numeral refusedLine
 refused-14 = refl

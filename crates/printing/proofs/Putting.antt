@@ -1,4 +1,4 @@
--- Laws of text written into lent bytes, and how long digits are.
+-- Laws of text written into lent bytes, and how long numerals are.
 use mathlib.Core.Path.{_≡_, refl, sym, ap, _∙_}
 use mathlib.Core.Bool.{Bool, true, false, cond}
 use mathlib.Core.List.{List, [], _∷_, _++_, append-assoc, append-nil}
@@ -9,12 +9,12 @@ use borrow.Author.Tests.{lt-ltb, le-ltb}
 use lib.Dec.{ltb}
 use lib.ListN.{length, take, drop, getD, set, length-append, take-append-drop}
 use lib.Seq.{length-take-le, take-length, take-all, take-at, drop-at, drop-drop, set-split, take-suc}
-use Rattle.model.specs.Limits.{sideUnit}
+use Rattle.model.specs.Limits.{mostLongest, digitUnit, sideUnit}
 use Rattle.model.specs.Computed.Lists.{spread}
 use Rattle.model.specs.Computed.Query.{ownerOf, hubOf, codeOf}
 use Rattle.model.proofs.Lists.{part-all, part-last}
 use Rattle.printing.specs.Puts.{Puts}
-use Rattle.printing.specs.Lines.{digits, number, labels, space, newline, outWord, inWord, sideLine, entryLine, placesWord, longestWord, legsWord, entriesWord, headerLine, refusedWord, refusedLine, listing}
+use Rattle.printing.specs.Lines.{numeral, number, labels, space, newline, outWord, inWord, sideLine, entryLine, placesWord, longestWord, legsWord, entriesWord, headerLine, refusedWord, refusedLine, listing}
 
 -- what is spread of one element more
 spread-snoc : (f : ℕ → List ℕ) (l : List ℕ) (x : ℕ) → spread f (l ++ (x ∷ [])) ≡ spread f l ++ f x
@@ -61,42 +61,42 @@ puts-then {out} {s} {out₁} {t} {out₂} {at} {a} {b} inside p q = record { end
     whole : out₂ ≡ take at out ++ ((s ++ t) ++ drop b out)
     whole = q .bytes ∙ rw (before, behind) (simp append-assoc)
 
-pub digits-length : (b most n : ℕ) → length (digits b most n) ≤ most
-unfolding digits
-digits-length b zero n = omega arith
-digits-length b (suc most) n = go (digits-length b most (n / b)) (ltb n b)
+pub numeral-length : (b most n : ℕ) → length (numeral b most n) ≤ most
+unfolding numeral
+numeral-length b zero n = omega arith
+numeral-length b (suc most) n = go (numeral-length b most (n / b)) (ltb n b)
   where
-    go : length (digits b most (n / b)) ≤ most → (x : Bool) → length (cond x ((48 + n) ∷ []) (digits b most (n / b) ++ ((48 + n % b) ∷ []))) ≤ suc most
+    go : length (numeral b most (n / b)) ≤ most → (x : Bool) → length (cond x ((48 + n) ∷ []) (numeral b most (n / b) ++ ((48 + n % b) ∷ []))) ≤ suc most
     go h true = omega arith
-    go h false = omega (arith, length-append (digits b most (n / b)) ((48 + n % b) ∷ []))
+    go h false = omega (arith, length-append (numeral b most (n / b)) ((48 + n % b) ∷ []))
 
--- the cases of `digits`: none, one, and more
-pub digits-none : (b most n : ℕ) → most ≡ 0 → digits b most n ≡ []
-unfolding digits
-digits-none b most n e = rw e
+-- the cases of `numeral`: none, one, and more
+pub numeral-none : (b most n : ℕ) → most ≡ 0 → numeral b most n ≡ []
+unfolding numeral
+numeral-none b most n e = rw e
 
-pub digits-one : (b most n : ℕ) → 1 ≤ most → n < b → digits b most n ≡ (48 + n) ∷ []
-unfolding digits
-digits-one b zero n h l = absurd (omega arith)
-digits-one b (suc most) n h l = rw (lt-ltb n b l)
+pub numeral-one : (b most n : ℕ) → 1 ≤ most → n < b → numeral b most n ≡ (48 + n) ∷ []
+unfolding numeral
+numeral-one b zero n h l = absurd (omega arith)
+numeral-one b (suc most) n h l = rw (lt-ltb n b l)
 
-pub digits-more : (b most n : ℕ) → 1 ≤ most → b ≤ n → digits b most n ≡ digits b (most - 1) (n / b) ++ ((48 + n % b) ∷ [])
-unfolding digits
-digits-more b zero n h l = absurd (omega arith)
-digits-more b (suc most) n h l =
+pub numeral-more : (b most n : ℕ) → 1 ≤ most → b ≤ n → numeral b most n ≡ numeral b (most - 1) (n / b) ++ ((48 + n % b) ∷ [])
+unfolding numeral
+numeral-more b zero n h l = absurd (omega arith)
+numeral-more b (suc most) n h l =
     let m : most ≡ suc most - 1 = omega arith in
-    rw (le-ltb n b l) (ap (λ (m : ℕ). digits b m (n / b) ++ ((48 + n % b) ∷ [])) m)
+    rw (le-ltb n b l) (ap (λ (m : ℕ). numeral b m (n / b) ++ ((48 + n % b) ∷ [])) m)
 
 -- how long the parts of a line are at most
 pub field-length : (t : List ℕ) (n : ℕ) → length (t ++ number n) ≤ length t + 10
-field-length t n = omega (arith, length-append t (number n), digits-length 10 10 n)
+field-length t n = omega (arith, length-append t (number n), numeral-length 10 10 n)
 
 -- where they end at most, whatever is put
 pub field-end : (t : List ℕ) (n : ℕ) {out out′ : List ℕ} {at r : ℕ} → Puts out at (t ++ number n) out′ r → r ≤ at + (length t + 10)
 field-end t n p = omega (arith, p .end, field-length t n)
 
-pub digits-end : (b most n : ℕ) {out out′ : List ℕ} {at r : ℕ} → Puts out at (digits b most n) out′ r → r ≤ at + most
-digits-end b most n p = omega (arith, p .end, digits-length b most n)
+pub numeral-end : (b most n : ℕ) {out out′ : List ℕ} {at r : ℕ} → Puts out at (numeral b most n) out′ r → r ≤ at + most
+numeral-end b most n p = omega (arith, p .end, numeral-length b most n)
 
 pub side-length : (e : ℕ) → length (sideLine e) ≤ 14
 unfolding sideLine
@@ -131,14 +131,14 @@ pub header-is : (v k m n : ℕ) → headerLine v k m n
 unfolding headerLine
 header-is v k m n = nested placesWord (number v) longestWord (number k) legsWord (number m) entriesWord (number n) newline
 
-pub entry-length : (e : ℕ) → length (entryLine e) ≤ 31
+pub entry-length : (e : ℕ) → length (entryLine e) ≤ 32
 entry-length e =
     let s = sideLine e in
     let h = space ++ number (hubOf e) in
     let k = labels (codeOf e) in
     rw (entry-is e)
     (omega
-    (arith, length-append (((s ++ h) ++ space) ++ k) newline, length-append ((s ++ h) ++ space) k, length-append (s ++ h) space, length-append s h, side-length e, field-length space (hubOf e), digits-length 16 4 (codeOf e)))
+    (arith, length-append (((s ++ h) ++ space) ++ k) newline, length-append ((s ++ h) ++ space) k, length-append (s ++ h) space, length-append s h, side-length e, field-length space (hubOf e), numeral-length digitUnit mostLongest (codeOf e)))
 
 pub header-length : (v k m n : ℕ) → length (headerLine v k m n) ≤ 72
 header-length v k m n =

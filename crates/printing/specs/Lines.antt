@@ -8,18 +8,18 @@ use Rattle.model.specs.Limits.{mostLongest, digitUnit, sideUnit}
 use Rattle.model.specs.Computed.Lists.{spread}
 use Rattle.model.specs.Computed.Query.{ownerOf, hubOf, codeOf}
 
--- the digits of n in base b, with no zeros in front, at most `most` of them. Byte 48 is the digit 0
-unfoldable pub digits : (b most n : ℕ) → List ℕ
-digits b zero n = []
-digits b (suc most) n = let more = digits b most (n / b) ++ ((48 + n % b) ∷ []) in cond (ltb n b) ((48 + n) ∷ []) more
+-- n written in base b, with no zeros in front, at most `most` digits. Byte 48 is the digit 0
+unfoldable pub numeral : (b most n : ℕ) → List ℕ
+numeral b zero n = []
+numeral b (suc most) n = let more = numeral b most (n / b) ++ ((48 + n % b) ∷ []) in cond (ltb n b) ((48 + n) ∷ []) more
 
 -- a decimal number; 32 bits take 10 digits
 abbrev pub number : ℕ → List ℕ
-number n = digits 10 10 n
+number n = numeral 10 10 n
 
 -- the labels (colours) of a pattern: its code's hexadecimal digits
 abbrev pub labels : ℕ → List ℕ
-labels code = digits digitUnit mostLongest code
+labels code = numeral digitUnit mostLongest code
 
 abbrev pub space : List ℕ
 space = 32 ∷ []

@@ -11,7 +11,7 @@ ghost use Rattle.model.specs.Limits.{digitUnit};
 ghost use Rattle.model.specs.Computed.Lists.{spread};
 ghost use Rattle.printing.specs.Puts.{Puts};
 ghost use Rattle.printing.specs.Lines.{
-  digits,
+  numeral,
   number,
   sideLine,
   entryLine,
@@ -45,7 +45,7 @@ fn put_text(out: &mut [u8], at: usize, text: &[u8]) -> usize
 // The digits of n, `most` of them at most.
 fn put_digits(out: &mut [u8], at: usize, n: u32, base: u32, most: usize) -> usize
     requires { ⌜ (1 ≤ base) × ((base ≤ digitUnit) × (at + most ≤ length (now out))) ⌝ }
-    ensures { λ r. ⌜ Puts (now (out .entry)) at (digits base most n) (now (out .exit)) r ⌝ }
+    ensures { λ r. ⌜ Puts (now (out .entry)) at (numeral base most n) (now (out .exit)) r ⌝ }
 {
     if most == 0 {
         return at;

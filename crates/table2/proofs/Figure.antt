@@ -14,7 +14,7 @@ use Rattle.model.specs.Order.{weight, rank, Names}
 use Rattle.model.specs.Computed.Lists.{all?, spread}
 use Rattle.model.specs.Computed.Edges.{edge?, zeros?, risingEdges?, edgeMemory?}
 use Rattle.model.specs.Computed.Patterns.{repeatFrom, minRepeat, own?, words, patterns}
-use Rattle.model.specs.Computed.Order.{place, byWeight, counted}
+use Rattle.model.specs.Computed.Order.{insertByWeight, byWeight, counted}
 use Rattle.model.specs.Computed.Levels.{states, leads?, led?, grow, stage, replyFrom, levelReply, runs?}
 use Rattle.model.specs.Computed.Entries.{stop?, allStops, earliest?, out?, in?, ofHub, ofOwner, ofSide, entries}
 use Rattle.model.proofs.Tests.{same-out}
@@ -25,7 +25,7 @@ use Rattle.build.specs.Build.{Buildable, Builds}
 use Rattle.build.specs.declared.Built.{Built}
 use Rattle.build.specs.declared.Built.the-variants.{Entries, TooMany}
 use Rattle.worked_examples.specs.Trials.{figure2, tableII}
-use Rattle.printing.specs.Lines.{digits, sideLine, entryLine}
+use Rattle.printing.specs.Lines.{numeral, sideLine, entryLine}
 
 abbrev pub edges : List ℕ
 edges = 257 ∷ 514 ∷ 4356 ∷ 4612 ∷ 8449 ∷ 8453 ∷ 8704 ∷ 8707 ∷ 12544 ∷ 13061 ∷ 16640 ∷ []
@@ -43,7 +43,7 @@ figure = refl
 
 -- the paper's order is document 01's access order
 counted-order : counted graph ≡ order
-unfolding counted byWeight place weight keep from
+unfolding counted byWeight insertByWeight weight keep from
 counted-order = refl
 
 names : Names 6 order
@@ -70,16 +70,16 @@ unfolding tableII
 table-entries = refl
 
 pub table-bytes : length (spread entryLine tableII) ≤ 1024
-unfolding tableII spread entryLine sideLine digits
+unfolding tableII spread entryLine sideLine numeral
 table-bytes = omega arith
 
 -- what `build` leaves in 26 slots or more: its reply, and index memory with Table II in front
-pub record Holds (index : List ℕ) (r : Built) : Type 0 where
+pub record BuildsTable (index : List ℕ) (r : Built) : Type 0 where
   pub reply : r ≡ Entries 26
   pub slots : 26 ≤ length index
   pub front : take 26 index ≡ tableII
 
-pub built : {index w index′ w′ : List ℕ} {r : Built} → 26 ≤ length index → Builds graph order index w index′ w′ r → Holds index′ r
+pub built : {index w index′ w′ : List ℕ} {r : Built} → 26 ≤ length index → Builds graph order index w index′ w′ r → BuildsTable index′ r
 built {index} {w} {index′} {w′} {r} h b =
     let fits = le-ltb (length index) 26 h in
     let reply : r ≡ Entries 26 = rw (table-II, table-entries, fits) at (b .reply) in

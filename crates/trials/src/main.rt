@@ -1,4 +1,4 @@
-// The unstarred trial runs of document 01, through the public calls: a line for each, with 0 where it is accepted, 100 for a yes, or the
+// The unstarred trial runs of document 01, through the public calls: a line for each, with 0 if it is accepted, 100 for a yes, or the
 // number of the refusal.
 use model::Answer;
 use model::QueryReply;

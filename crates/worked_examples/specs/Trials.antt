@@ -19,13 +19,13 @@ use Rattle.calls.specs.Change.{removeCall}
 use Rattle.calls.specs.Card.{readCall}
 
 -- a layout as a call meets it: vertices, k and edge memory
-pub record Layout : Type 0 where
+pub record TrialLayout : Type 0 where
   pub vertices : ℕ
   pub longest : ℕ
   pub edges : List ℕ
 
 -- "Layout A is the card above": edges 0-1-1, 1-1-2, 1-2-0
-unfoldable pub A : Layout
+unfoldable pub A : TrialLayout
 A = record { vertices = 3; longest = 2; edges = 257 ∷ 4354 ∷ 4608 ∷ [] }
 
 -- "The slots are": A's index memory, of five slots
@@ -37,19 +37,19 @@ unfoldable pub cardA : List ℕ
 cardA = 80 ∷ 82 ∷ 67 ∷ 0 ∷ 1 ∷ 2 ∷ 2 ∷ 0 ∷ 3 ∷ 0 ∷ 1 ∷ 1 ∷ 1 ∷ 1 ∷ 2 ∷ 1 ∷ 2 ∷ 0 ∷ []
 
 -- "One place, k 1, leg 0-1-0"
-unfoldable pub loop : Layout
+unfoldable pub loop : TrialLayout
 loop = record { vertices = 1; longest = 1; edges = 256 ∷ [] }
 
 -- "Layout B: 8 places, k 1, legs 0-1-2, 0-1-3, 0-2-4, 1-1-0, 5-2-1, 6-2-1, 7-2-1"
-unfoldable pub B : Layout
+unfoldable pub B : TrialLayout
 B = record { vertices = 8; longest = 1; edges = 258 ∷ 259 ∷ 516 ∷ 4352 ∷ 20993 ∷ 25089 ∷ 29185 ∷ [] }
 
 -- "Lifting 0-2-4": layout B without that edge
-unfoldable pub removedB : Layout
+unfoldable pub removedB : TrialLayout
 removedB = record { vertices = 8; longest = 1; edges = removeEdge (edgeNumber 0 2 4) (B .edges) }
 
 -- Fig. 2 of paper 004, vertex v + 1 there being v here: edges 0-1-1, 0-2-2, 1-1-4, 1-2-4, 2-1-1, 2-1-5, 2-2-0, 2-2-3, 3-1-0, 3-3-5, 4-1-0
-unfoldable pub figure2 : Layout
+unfoldable pub figure2 : TrialLayout
 figure2 = record { vertices = 6; longest = 2; edges = 257 ∷ 514 ∷ 4356 ∷ 4612 ∷ 8449 ∷ 8453 ∷ 8704 ∷ 8707 ∷ 12544 ∷ 13061 ∷ 16640 ∷ [] }
 
 -- Table II there, the index that its authors print: first L_out, then L_in, by owner, hub and pattern
@@ -64,17 +64,17 @@ pub data Case : Type 0 where
   -- a pattern, and its minimum repeat
   repeats : (pattern expected : List ℕ) → Case
   -- a plain check on a layout, from start to destination by a pattern with an allowance, and its reply
-  searches : (y : Layout) (start destination : ℕ) (pattern : List ℕ) (limit : ℕ) (expected : Reply) → Case
+  searches : (y : TrialLayout) (start destination : ℕ) (pattern : List ℕ) (limit : ℕ) (expected : Reply) → Case
   -- a question on a layout with an index memory, from start to destination by a pattern, and whether it is yes
-  queries : (y : Layout) (index : List ℕ) (start destination : ℕ) (pattern : List ℕ) (expected : Bool) → Case
+  queries : (y : TrialLayout) (index : List ℕ) (start destination : ℕ) (pattern : List ℕ) (expected : Bool) → Case
   -- a layout, and the entries that its edges determine
-  indexed : (y : Layout) (expected : List ℕ) → Case
+  indexed : (y : TrialLayout) (expected : List ℕ) → Case
   -- a layout, and how many entries it needs
-  counts : (y : Layout) (expected : ℕ) → Case
+  counts : (y : TrialLayout) (expected : ℕ) → Case
   -- a card read into so many edge slots and index slots, and the number and edge and index memory that it leaves
   reads : (card : List ℕ) (slots room number : ℕ) (edges index : List ℕ) → Case
   -- an edge removed (lifted) from a layout with so many index slots, and its number
-  removes : (y : Layout) (room from label to number : ℕ) → Case
+  removes : (y : TrialLayout) (room from label to number : ℕ) → Case
 
 unfoldable pub trials : List Case
 trials =
@@ -119,22 +119,22 @@ sameReply? (Refused a) (No b) = false
 sameReply? (Refused a) (Spent b) = false
 sameReply? (Refused a) (Refused b) = eqb a b
 
--- the answer is yes where that is expected, and no where not
+-- the answer is yes if that is expected, and no if not
 unfoldable pub sameAnswer? : Answered → Bool → Bool
 sameAnswer? AnsweredYes expected = expected
 sameAnswer? AnsweredNo expected = not expected
 sameAnswer? (AnsweredRefused n) expected = false
 
 -- "the entries that they determine": those of a layout's edges
-unfoldable pub entriesOf : Layout → List ℕ
+unfoldable pub entriesOf : TrialLayout → List ℕ
 entriesOf y = determined (record { vertices = y .vertices; longest = y .longest; edges = standing (y .edges) })
 
 -- edge, index and work memory: the edges given, so many index slots, and the least work memory that a build may have
 unfoldable pub buildLent : List ℕ → ℕ → Memory
 buildLent edges room = lent edges (replicate room 0) (replicate (leastWork + room) 0)
 
-abbrev pub headerIn : Layout → Header
-headerIn y = record { vertices = y .vertices; longest = y .longest }
+abbrev pub trialHeader : TrialLayout → Header
+trialHeader y = record { vertices = y .vertices; longest = y .longest }
 
 -- a change has that number, and leaves that edge and index memory
 unfoldable pub leaves? : Outcome Returned → ℕ → List ℕ → List ℕ → Bool
@@ -144,10 +144,10 @@ leaves? c number edges index = eqb (c .reply .answer) number && (same? (c .memor
 unfoldable pub holds? : Case → Bool
 holds? (repeats pattern expected) = same? (minRepeat pattern) expected
 holds? (searches y s t pattern limit expected) =
-    sameReply? (searchCall (headerIn y) s t pattern limit (lent (y .edges) [] (replicate leastWork 0)) .reply) expected
-holds? (queries y index s t pattern expected) = sameAnswer? (queryCall (headerIn y) s t pattern (lent [] index []) .reply) expected
+    sameReply? (searchCall (trialHeader y) s t pattern limit (lent (y .edges) [] (replicate leastWork 0)) .reply) expected
+holds? (queries y index s t pattern expected) = sameAnswer? (queryCall (trialHeader y) s t pattern (lent [] index []) .reply) expected
 holds? (indexed y expected) = same? (entriesOf y) expected
 holds? (counts y expected) = eqb (length (entriesOf y)) expected
 holds? (reads card slots room number edges index) = leaves? (readCall card (buildLent (replicate slots 0) room)) number edges index
 holds? (removes y room from label to number) =
-    eqb (removeCall (headerIn y) from label to (buildLent (y .edges) room) .reply .answer) number
+    eqb (removeCall (trialHeader y) from label to (buildLent (y .edges) room) .reply .answer) number

@@ -8,7 +8,7 @@ use Rattle.calls.proofs.Checks.{none, pass, stop, header-is, test-vertices, tes
 use Rattle.checks.proofs.check_header.Statement.{statement}
 use Rattle.checks.proofs.check_header.Tie as tie
 
--- the vertices pass where both of their tests are left
+-- the vertices pass if both of their tests are left
 vertices-pass : (c : tie.Else2) → vertices? (c .before .before .args .vertices) ≡ true
 vertices-pass c = test-true (test-vertices (c .before .before .args .vertices)) (omega arith)
 

@@ -5,7 +5,7 @@ use native.Mathlib.Omega.{arith}
 use borrow.Author.Needs.{needs}
 use borrow.Fn.Kinds.{In}
 use borrow.Fn.PlainCycle.{Measures, is, falls, and}
-use Rattle.printing.proofs.Putting.{puts-none, puts-then, digits-length, digits-none, digits-one, digits-more}
+use Rattle.printing.proofs.Putting.{puts-none, puts-then, numeral-length, numeral-none, numeral-one, numeral-more}
 use Rattle.printing.proofs.put_digits.Reads as own
 use Rattle.printing.proofs.put_digits.Kinds as kinds
 use Rattle.printing.proofs.+put_digits.Lts-put_digits as lts
@@ -43,7 +43,7 @@ module _ (t : ℕ) (c : lts.Else2 (claims t) (given t) own.Post) where
       omega (arith, mod-lt n pos, c .before .before .before .pre .1 .1 .0)
 
 returns : (t : ℕ) → lts.Need-returns (claims t) (given t) own.Post
-returns t c = rw (digits-none _ _ _ (c .if1 .taken)) (puts-none _ _)
+returns t c = rw (numeral-none _ _ _ (c .if1 .taken)) (puts-none _ _)
 
 cast-put : (t : ℕ) → lts.Need-cast-put (claims t) (given t) own.Post
 cast-put t c = search needs
@@ -61,7 +61,7 @@ returns-2 : (t : ℕ) → lts.Need-returns-2 (claims t) (given t) own.Post
 returns-2 t c =
     let e = c .before .before .before .before .before in
     let some : 1 ≤ e .before .before .args .most = omega (arith, e .if1 .left) in
-    rw (digits-one (e .before .before .args .base) _ (e .before .before .args .n) some (c .before .before .before .before .if2 .taken)) (c .before .before .put .ensures)
+    rw (numeral-one (e .before .before .args .base) _ (e .before .before .args .n) some (c .before .before .before .before .if2 .taken)) (c .before .before .put .ensures)
 
 div-put-digits : (t : ℕ) → lts.Need-div-put-digits (claims t) (given t) own.Post
 div-put-digits t c = search needs
@@ -85,7 +85,7 @@ put-requires-2 : (t : ℕ) → lts.Need-put-requires-2 (claims t) (given t) own.
 put-requires-2 t c κs =
     let done = c .before .before .before in
     let e = done .before .before in
-    omega (arith, done .put-digits .kept .0, done .put-digits .ensures .end, digits-length (base t e) (fewer t e) (n t e / base t e), e .before .if1 .left, e .before .before .before .pre .1 .1 .1)
+    omega (arith, done .put-digits .kept .0, done .put-digits .ensures .end, numeral-length (base t e) (fewer t e) (n t e / base t e), e .before .if1 .left, e .before .before .before .pre .1 .1 .1)
 
 same-length-2 : (t : ℕ) → lts.Need-same-length-2 (claims t) (given t) own.Post
 same-length-2 t c = search needs
@@ -95,7 +95,7 @@ returns-3 t c =
     let done = c .before .before .before .before .before .before in
     let e = done .before .before in
     let some : 1 ≤ e .before .before .before .args .most = omega (arith, e .before .if1 .left) in
-    rw (digits-more (base t e) _ (n t e) some (e .if2 .left))
+    rw (numeral-more (base t e) _ (n t e) some (e .if2 .left))
     (puts-then (omega (arith, e .before .before .before .pre .1 .1 .1)) (done .put-digits .ensures) (c .before .before .put2 .ensures))
 
 pub +put-digits-spec : {M : Type 1} → statement M

@@ -4,7 +4,7 @@ use native.Mathlib.Omega.{arith}
 use borrow.Author.Needs.{needs}
 use lib.ListN.{length}
 use Rattle.printing.specs.Lines.{space}
-use Rattle.printing.proofs.Putting.{puts-then, field-end, digits-end, side-length, entry-is}
+use Rattle.printing.proofs.Putting.{puts-then, field-end, numeral-end, side-length, entry-is}
 use Rattle.printing.proofs.put_entry.Statement.{statement}
 use Rattle.printing.proofs.put_entry.Tie as tie
 
@@ -20,8 +20,8 @@ room-hub c = omega (arith, field-end space _ (c .put-field .ensures), c .put-fie
 room-space : (c : tie.After-put) → c .put .result + 6 ≤ length (c .put .last .0)
 room-space c = omega (arith, c .put .ensures .end, c .put .kept .0, room-hub (c .before .before .before .before))
 
-room-labels : (c : tie.After-put-digits) → c .put-digits .result + 2 ≤ length (c .put-digits .last .0)
-room-labels c = omega (arith, digits-end _ _ _ (c .put-digits .ensures), c .put-digits .kept .0, room-space (c .before .before .before .before))
+room-labels : (c : tie.After-put-digits) → c .put-digits .result + 1 ≤ length (c .put-digits .last .0)
+room-labels c = omega (arith, numeral-end _ _ _ (c .put-digits .ensures), c .put-digits .kept .0, room-space (c .before .before .before .before))
 
 put-field-requires : tie.Need-put-field-requires
 put-field-requires c κs = omega (arith, room-side (c .before .before .before .before))

@@ -1,4 +1,4 @@
--- `suffixes::is_own` meets its contract: the minimum repeat is the pattern where it is as long.
+-- `suffixes::is_own` meets its contract: the minimum repeat is the pattern if it is as long.
 use borrow.Author.Needs.{needs}
 use Rattle.suffixes.proofs.Own.{own-length}
 use Rattle.suffixes.proofs.is_own.Statement.{statement}

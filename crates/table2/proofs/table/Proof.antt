@@ -2,12 +2,12 @@
 use mathlib.Core.Path.{_≡_}
 use native.Mathlib.Omega.{arith}
 use borrow.Author.Needs.{needs}
-use Rattle.table2.proofs.Figure.{Holds, buildable, built, entries-are, not-too-many, table-entries}
+use Rattle.table2.proofs.Figure.{BuildsTable, buildable, built, entries-are, not-too-many, table-entries}
 use Rattle.table2.proofs.table.Statement.{statement}
 use Rattle.table2.proofs.table.Tie as tie
 
 -- after `build`: the reply, and index memory
-holds : (c : tie.After-build) → Holds (c .build .last .1 .1 .1 .1 .0) (c .build .result)
+holds : (c : tie.After-build) → BuildsTable (c .build .last .1 .1 .1 .1 .0) (c .build .result)
 holds c = built (omega arith) (c .build .ensures)
 
 -- the number of entries bound from the reply
