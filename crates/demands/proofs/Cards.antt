@@ -7,7 +7,7 @@ use native.Mathlib.Decide.{decLt}
 use native.Mathlib.Omega.{arith}
 use lib.Dec.{eqb, leb, ltb}
 use lib.ListN.{length, drop, length-drop}
-use Rattle.model.specs.Limits.{mostEdges, mostLongest, headBytes}
+use Rattle.model.specs.Limits.{mostEdges, mostLongest, headBytes, leastWork}
 use Rattle.model.specs.Lists.{any?, upTo, Bytes}
 use Rattle.model.specs.Computed.Entries.{determined}
 use Rattle.model.proofs.Tests.{test-true, test-false, test-yields, test-fails, test-and, test-eq, test-le, test-lt, test-T}
@@ -113,7 +113,7 @@ module _ (card : List ℕ) (bytes : Bytes card) (work : List ℕ) where
         nine = rw wide (above-not n slots)
 
         four : narrow (fedBy slots room reads) ≡ not (buildRoom? m)
-        four = rw long (above-not (4096 + room) (length work))
+        four = rw long (above-not (leastWork + room) (length work))
 
         thirteen : WholeCard → full (cardBook card) (fedBy slots room reads) ≡ not (fits? (headerOf card) wanted m)
         thirteen w = rw (book-entries w, long) (above-not (length (determined (graphOf (headerOf card) wanted))) room)

@@ -8,41 +8,41 @@ use native.Mathlib.Numerals.{add-one}
 use native.Mathlib.Omega.{arith}
 use native.Mathlib.Decide.{decLt}
 use lib.ListN.{length, getD}
-use Rattle.model.specs.Limits.{mostVertices}
-use Rattle.model.specs.States.{Leads}
+use Rattle.model.specs.Limits.{mostVertices, fromUnit, labelUnit}
+use Rattle.model.specs.States.{Leads, vertexOf, usedOf}
 use Rattle.model.proofs.Lists.{getD-in, in-getD}
 use Rattle.level_search.specs.Work.{Ahead, Grown, LedTo, Short, queue}
 use Rattle.level_search.proofs.Grow.{grown-none, grown-then, grown-as}
 
 -- the least number of an edge of the next label from state x
 abbrev pub keyOf : List ℕ → ℕ → ℕ
-keyOf l x = x % 256 * 4096 + getD l (x / 256) 0 * 256
+keyOf l x = vertexOf x * fromUnit + getD l (usedOf x) 0 * labelUnit
 
 -- the least state with one label more
 abbrev pub baseOf : List ℕ → ℕ → ℕ
-baseOf l x = (x / 256 + 1) % length l * 256
+baseOf l x = (usedOf x + 1) % length l * mostVertices
 
 module _ (edges l : List ℕ) (x y : ℕ) where
   pub ahead-leads : Ahead edges (length edges) (keyOf l x) (baseOf l x) y → Leads edges l x y
   ahead-leads a = record { next = position; stands = Memᴰ·cast number (getD-in edges (a .j) (a .early)) }
     where
-      number : x % 256 * 4096 + getD l (x / 256) 0 * 256 + y % 256 ≡ getD edges (a .j) 0
+      number : keyOf l x + vertexOf y ≡ getD edges (a .j) 0
       number = omega (arith, a .is, a .least, a .most)
 
-      position : y / 256 ≡ suc (x / 256) % length l
+      position : usedOf y ≡ suc (usedOf x) % length l
       position =
-          let e : y / 256 ≡ (x / 256 + 1) % length l = omega (arith, a .is, a .least, a .most) in
-          e ∙ ap (λ (n : ℕ). n % length l) (add-one (x / 256))
+          let e : usedOf y ≡ (usedOf x + 1) % length l = omega (arith, a .is, a .least, a .most) in
+          e ∙ ap (λ (n : ℕ). n % length l) (add-one (usedOf x))
 
   pub leads-ahead : Leads edges l x y → Ahead edges (length edges) (keyOf l x) (baseOf l x) y
   leads-ahead h =
       let i = in-getD (h .stands) in
-      let position : y / 256 ≡ (x / 256 + 1) % length l = h .next ∙ ap (λ (n : ℕ). n % length l) (sym (add-one (x / 256))) in
+      let position : usedOf y ≡ (usedOf x + 1) % length l = h .next ∙ ap (λ (n : ℕ). n % length l) (sym (add-one (usedOf x))) in
       record { j = i .i; early = i .inside; least = omega (arith, i .is); most = omega (arith, i .is); is = omega (arith, i .is) }
 
   -- a state that is led to has its position in the pattern
   pub leads-fit : Short l → Leads edges l x y → y < length l * mostVertices
-  leads-fit s h = let p : y / 256 ≡ suc (x / 256) % length l = h .next in omega (arith, mod-lt (suc (x / 256)) {m = length l} (s .least))
+  leads-fit s h = let p : usedOf y ≡ suc (usedOf x) % length l = h .next in omega (arith, mod-lt (suc (usedOf x)) {m = length l} (s .least))
 
 module _ (edges l : List ℕ) (lo : ℕ) where
   pub next-none : (w₀ w : List ℕ) (n : ℕ) → Grown w n w n (LedTo edges l w₀ lo lo)

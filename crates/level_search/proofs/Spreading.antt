@@ -6,6 +6,7 @@ use Prim.Native.Nat.{ℕ, _+_, _-_, _≤_, _<_}
 use native.Mathlib.Omega.{arith}
 use native.Mathlib.Decide.{decLt}
 use lib.ListN.{length, getD}
+use Rattle.model.specs.Limits.{labelUnit}
 use Rattle.model.specs.Lists.{Rising}
 use Rattle.model.proofs.Lists.{rising-le}
 use Rattle.edges.specs.Slots.{Under}
@@ -22,7 +23,7 @@ module _ (edges : List ℕ) (key base : ℕ) where
   wider : {i i′ : ℕ} → i ≤ i′ → (y : ℕ) → Ahead edges i key base y → Ahead edges i′ key base y
   wider h y a = record { j = a .j; early = omega (arith, a .early); least = a .least; most = a .most; is = a .is }
 
-  one-more : (i y : ℕ) → key ≤ getD edges i 0 → getD edges i 0 < key + 256 → y ≡ base + (getD edges i 0 - key) → Ahead edges (i + 1) key base y
+  one-more : (i y : ℕ) → key ≤ getD edges i 0 → getD edges i 0 < key + labelUnit → y ≡ base + (getD edges i 0 - key) → Ahead edges (i + 1) key base y
   one-more i y l m e = record { j = i; early = omega arith; least = l; most = m; is = omega arith }
 
   split : (i y : ℕ) → Ahead edges (i + 1) key base y → Ahead edges i key base y ⊎ (y ≡ base + (getD edges i 0 - key))
@@ -34,12 +35,12 @@ module _ (edges : List ℕ) (key base : ℕ) where
       same : ¬ (a .j < i) → a .j ≡ i
       same l = omega (arith, a .early)
 
-  pub run-more : {w w₁ w₂ : List ℕ} {n n₁ n₂ i : ℕ} → key ≤ getD edges i 0 → getD edges i 0 < key + 256
+  pub run-more : {w w₁ w₂ : List ℕ} {n n₁ n₂ i : ℕ} → key ≤ getD edges i 0 → getD edges i 0 < key + labelUnit
       → Grown w n w₁ n₁ (Ahead edges i key base) → Grown w₁ n₁ w₂ n₂ (λ y. y ≡ base + (getD edges i 0 - key)) → Grown w n w₂ n₂ (Ahead edges (i + 1) key base)
   run-more {i = i} l m g h = grown-as (grown-then g h) (λ y p. ⊎-elim (λ a. wider (omega arith) y a) (λ e. one-more i y l m e) p) (split i)
 
   -- no edge after the run leads on
-  pub run-all : {w w′ : List ℕ} {n n′ i : ℕ} → Rising edges → i ≤ length edges → key + 256 ≤ getD edges i 0
+  pub run-all : {w w′ : List ℕ} {n n′ i : ℕ} → Rising edges → i ≤ length edges → key + labelUnit ≤ getD edges i 0
       → Grown w n w′ n′ (Ahead edges i key base) → Grown w n w′ n′ (Ahead edges (length edges) key base)
   run-all {i = i} s h e g = grown-as g (wider h) back
     where

@@ -1,16 +1,16 @@
 -- Laws of edge numbers.
 use mathlib.Core.Path.{_≡_, subst, sym}
 use mathlib.Core.Bool.{true}
-use Prim.Native.Nat.{ℕ, _≤_, _<_}
+use Prim.Native.Nat.{ℕ, _/_, _≤_, _<_}
 use native.Mathlib.Omega.{arith}
 use lib.Dec.{T}
-use Rattle.model.specs.Limits.{mostLabel}
+use Rattle.model.specs.Limits.{mostLabel, fromUnit, labelUnit}
 use Rattle.model.specs.Edges.{edgeNumber, fromOf, labelOf, toOf}
 use Rattle.model.specs.Computed.Edges.{edge?}
 use Rattle.model.proofs.Tests.{Tests, test-map, test-and, test-le, test-lt}
 
 -- the fields of an edge number
-pub edge-fields : (a c b : ℕ) → c < 16 → b < 256 → (fromOf (edgeNumber a c b) ≡ a) × (labelOf (edgeNumber a c b) ≡ c) × (toOf (edgeNumber a c b) ≡ b)
+pub edge-fields : (a c b : ℕ) → c < fromUnit / labelUnit → b < labelUnit → (fromOf (edgeNumber a c b) ≡ a) × (labelOf (edgeNumber a c b) ≡ c) × (toOf (edgeNumber a c b) ≡ b)
 edge-fields a c b hc hb = omega arith
 
 -- x is the number of an edge
@@ -28,7 +28,7 @@ test-edge vertices x = test-map
     (test-and (test-lt (fromOf x) vertices) (test-and (test-and (test-le 1 (labelOf x)) (test-le (labelOf x) mostLabel)) (test-lt (toOf x) vertices)))
 
 -- an edge's end is a vertex
-pub edge-to : (vertices a c b : ℕ) → b < 256 → edge? vertices (edgeNumber a c b) ≡ true → b < vertices
+pub edge-to : (vertices a c b : ℕ) → b < labelUnit → edge? vertices (edgeNumber a c b) ≡ true → b < vertices
 edge-to vertices a c b h e =
     let same : toOf (edgeNumber a c b) ≡ b = omega arith in
     rw same at ((test-edge vertices (edgeNumber a c b)) .yields (subst T (sym e) tt) .to)

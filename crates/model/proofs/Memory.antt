@@ -6,7 +6,7 @@ use mathlib.Core.List.{List, [], _∷_, _++_, List·Memᴰ·head, List·Memᴰ·
 use Prim.Native.Nat.{ℕ, zero, suc, _-_, _≤_}
 use native.Mathlib.Omega.{arith}
 use lib.ListN.{length, replicate, length-append, length-replicate}
-use Rattle.model.specs.Limits.{mostEdges}
+use Rattle.model.specs.Limits.{mostEdges, labelUnit}
 use Rattle.model.specs.Lists.{_∈_, Rising, filled}
 use Rattle.model.specs.Edges.{standing}
 use Rattle.model.specs.Computed.Edges.{edge?, rising?, risingEdges?, edgeMemory?}
@@ -15,7 +15,7 @@ use Rattle.model.proofs.Edges.{test-edge}
 use Rattle.model.proofs.Zeros.{not-zero, rising-zeros, Ordered, ordered}
 
 -- an edge has a label
-pub edge-least : (vertices x : ℕ) → edge? vertices x ≡ true → 256 ≤ x
+pub edge-least : (vertices x : ℕ) → edge? vertices x ≡ true → labelUnit ≤ x
 edge-least vertices x e = omega (arith, (test-yields (test-edge vertices x) e) .label-low)
 
 pub length-filled : (m : ℕ) (l : List ℕ) → length l ≤ m → length (filled m l) ≡ m

@@ -4,13 +4,14 @@ use mathlib.Core.Path.{_≡_, refl, sym, ap, _∙_}
 use mathlib.Core.Logic.{_⊎_, inl, inr, ⊎-elim, _≢_}
 use mathlib.Core.Bool.{Bool, true, false, not}
 use mathlib.Core.List.{List, [], _∷_, List·Memᴰ·head, List·Memᴰ·tail, List·Memᴰ·cases-cons, List·Memᴰ·not-nil}
-use Prim.Native.Nat.{ℕ, zero, suc, _+_, _≤_, _<_}
+use Prim.Native.Nat.{ℕ, zero, suc, _+_, _/_, _≤_, _<_}
 use native.Mathlib.Nat.{le-of-suc-le-suc, not-suc-le-zero}
 use native.Mathlib.Decide.{ℕ-discrete}
 use native.Mathlib.Omega.{arith}
 use lib.Dec.{T, eqb}
 use lib.ListN.{length, getD, take}
 use lib.Seq.{getD-take, length-take-le, ext-getD}
+use Rattle.model.specs.Limits.{fromUnit, labelUnit}
 use Rattle.model.specs.Lists.{_∈_, put, keep, upTo, Sorted, none, next}
 use Rattle.model.specs.Edges.{edgeNumber, fromOf, toOf}
 use Rattle.model.specs.Order.{outDegree, inDegree, rank, Names}
@@ -55,7 +56,7 @@ module _ (f : ℕ → Bool) where
   keep-all (x ∷ l) h = keep-yes x l (h x (List·Memᴰ·head refl)) ∙ ap (λ m. x ∷ m) (keep-all l (λ z m. h z (List·Memᴰ·tail m)))
 
 -- an edge from v to itself counts on both sides
-pub self-edge : (n v c : ℕ) (edges : List ℕ) → v < 256 → c < 16 →
+pub self-edge : (n v c : ℕ) (edges : List ℕ) → v < labelUnit → c < fromUnit / labelUnit →
     let g = bare n edges in
     let h = bare n (edgeNumber v c v ∷ edges) in
     (outDegree h v ≡ suc (outDegree g v)) × (inDegree h v ≡ suc (inDegree g v))

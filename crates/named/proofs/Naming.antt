@@ -2,10 +2,11 @@
 use mathlib.Core.Path.{_≡_, sym, ap, _∙_}
 use mathlib.Core.Bool.{Bool, true, false, not}
 use mathlib.Core.List.{List, _∷_}
-use Prim.Native.Nat.{ℕ, _≤_, _<_}
+use Prim.Native.Nat.{ℕ, _/_, _≤_, _<_}
 use native.Mathlib.Omega.{arith}
 use lib.ListN.{length, getD, take}
 use lib.Seq.{getD-take}
+use Rattle.model.specs.Limits.{mostVertices, fromUnit, labelUnit}
 use Rattle.model.specs.Lists.{_∈_, mem?, Rising}
 use Rattle.model.specs.Edges.{edgeNumber, standing}
 use Rattle.model.specs.Replies.{numberOf}
@@ -48,7 +49,7 @@ module _ {h : Header} {from label to : ℕ} {m : Memory} where
     memory = scans (h .vertices) (m .edges) (scanned (h .vertices) (m .edges) (good .memory) (p .count))
 
     -- the edge has a number, and is looked up among rising ones
-    pub numbered : (from < 256) × ((label < 16) × (to < 256))
+    pub numbered : (from < mostVertices) × ((label < fromUnit / labelUnit) × (to < labelUnit))
     numbered = (omega (arith, good .from-vertex, good .header .vertices-most), (omega (arith, good .label-most), omega (arith, good .to-vertex, good .header .vertices-most)))
 
     pub searchable : (n ≤ length (m .edges)) × Rising (take n (m .edges))

@@ -2,13 +2,14 @@
 use Prim.Native.Nat.{_-_, _≤_, _*_, zero-le}
 use native.Mathlib.Omega.{arith}
 use borrow.Author.Needs.{needs}
+use Rattle.model.specs.Limits.{fromUnit}
 use Rattle.edges.specs.Slots.{Under, Starts}
 use Rattle.edges.proofs.Slots.{under-up, under-none, starts-none, starts-set}
 use Rattle.edges.proofs.first_slots.Statement.{statement}
 use Rattle.edges.proofs.first_slots.Tie as tie
 
 abbrev Inv-loop : tie.InvT-loop
-Inv-loop vertices edges slots₀ i₀ v₀ slots i v = (v ≤ vertices) × (Starts edges slots × Under edges (v * 4096) i)
+Inv-loop vertices edges slots₀ i₀ v₀ slots i v = (v ≤ vertices) × (Starts edges slots × Under edges (v * fromUnit) i)
 
 abbrev μ-loop : tie.MeasureT-loop
 μ-loop vertices edges slots₀ i₀ v₀ slots i v = vertices - v

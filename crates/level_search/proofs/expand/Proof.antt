@@ -3,6 +3,7 @@ use Prim.Native.Nat.{_+_, _/_, _%_, _<_}
 use native.Mathlib.Nat.{mod-lt}
 use native.Mathlib.Omega.{arith}
 use lib.ListN.{length, getD}
+use Rattle.model.specs.Limits.{mostVertices, mostLongest}
 use Rattle.edges.proofs.Slots.{under-up}
 use Rattle.level_search.proofs.Grow.{grown-as}
 use Rattle.level_search.proofs.Leads.{ahead-leads, leads-ahead}
@@ -11,14 +12,14 @@ use Rattle.level_search.proofs.expand.Statement.{statement}
 use Rattle.level_search.proofs.expand.Tie as tie
 
 label : (c : tie.After-shared-slice-known4)
-    → getD (c .before .before .before .before .before .args .pattern .now) (c .before .before .before .before .before .args .x / 256) 0 < 256
-label c = omega (arith, c .shared-slice-known4 .given (c .before .before .before .before .before .args .x / 256))
+    → getD (c .before .before .before .before .before .args .pattern .now) (c .before .before .before .before .before .args .x / mostVertices) 0 < 256
+label c = omega (arith, c .shared-slice-known4 .given (c .before .before .before .before .before .args .x / mostVertices))
 
 position : (c : tie.After-shared-slice-known4)
-    → (c .before .before .before .before .before .args .x / 256 + 1) % length (c .before .before .before .before .before .args .pattern .now) < 4
+    → (c .before .before .before .before .before .args .x / mostVertices + 1) % length (c .before .before .before .before .before .args .pattern .now) < mostLongest
 position c =
     let short = c .before .before .before .before .before .pre .1 .1 .0 in
-    omega (arith, mod-lt (c .before .before .before .before .before .args .x / 256 + 1) (short .least), short .most)
+    omega (arith, mod-lt (c .before .before .before .before .before .args .x / mostVertices + 1) (short .least), short .most)
 
 cast-label : tie.Need-cast-label
 cast-label c = omega (arith, label c)
@@ -37,7 +38,7 @@ spread-requires c κs =
     let start = c .before .before .before .before .before .before .before in
     let l = label (c .before .before) in
     let p = position (c .before .before) in (
-      (start .pre .0 .0, under-up (omega arith) (start .pre .0 .1 .under (start .args .x % 256) (omega arith))),
+      (start .pre .0 .0, under-up (omega arith) (start .pre .0 .1 .under (start .args .x % mostVertices) (omega arith))),
       (start .pre .1 .0, (omega arith, omega arith)),
     )
 

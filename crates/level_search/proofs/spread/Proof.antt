@@ -3,6 +3,7 @@ use Prim.Native.Nat.{_+_, _-_, _≤_, _<_}
 use native.Mathlib.Nat.{le-refl, le-antisymm}
 use native.Mathlib.Omega.{arith}
 use lib.ListN.{length, getD}
+use Rattle.model.specs.Limits.{labelUnit}
 use Rattle.edges.proofs.Slots.{skipped-least}
 use Rattle.level_search.specs.Work.{Grown, Ahead}
 use Rattle.level_search.proofs.Spreading.{run-none, run-more, run-all}
@@ -20,7 +21,7 @@ least : (c : tie.At-loop Inv-loop μ-loop) → c .loop .i < length (c .before .b
 least c h = skipped-least (c .before .before .before .before .pre .0 .0) (c .before .skip .ensures) _ (c .loop .inv .1 .0) h
 
 -- what the edge at hand leads to is a state
-reached : (c : tie.Else1 Inv-loop μ-loop) → (c .before .before .before .before .before .before .before .args .key ≤ getD (c .before .before .before .before .before .before .before .args .edges .now) (c .before .before .before .loop .i) 0) × (getD (c .before .before .before .before .before .before .before .args .edges .now) (c .before .before .before .loop .i) 0 < c .before .before .before .before .before .before .before .args .key + 256)
+reached : (c : tie.Else1 Inv-loop μ-loop) → (c .before .before .before .before .before .before .before .args .key ≤ getD (c .before .before .before .before .before .before .before .args .edges .now) (c .before .before .before .loop .i) 0) × (getD (c .before .before .before .before .before .before .before .args .edges .now) (c .before .before .before .loop .i) 0 < c .before .before .before .before .before .before .before .args .key + labelUnit)
 reached c = (least (c .before .before .before) (c .before .before .loop-test .taken), c .if1 .left)
 
 skip-requires : tie.Need-skip-requires Inv-loop μ-loop
