@@ -17,7 +17,7 @@
  * A slice is a pointer and then its number of elements. Elements must be aligned as their C type asks. A slice
  * of 0 elements may have any pointer, NULL too. One memory must not be lent twice in one call, nor changed by
  * another thread or an interrupt while the call runs. Stack use, as measured on x86-64: below 24 KiB for insert,
- * remove and read card, 12 KiB for a query, 4 KiB for the others.
+ * remove and read card, 20 KiB for a query, 4 KiB for the others.
  *
  * A refused call changes nothing that was lent, except that refusal 13 zeroes work memory.
  */
