@@ -24,7 +24,7 @@ ends? vertices start destination = ltb start vertices && ltb destination vertice
 abbrev pub Check : Type 0
 Check = ℕ × Bool
 
--- "The first that applies is returned": the number of the first check that does not pass, 0 where all do
+-- "The first that applies is returned": the number of the first check that does not pass, 0 if all do
 unfoldable pub firstRefusal : List Check → ℕ
 firstRefusal [] = 0
 firstRefusal (c ∷ later) = let rest = firstRefusal later in cond (c .1) rest (c .0)

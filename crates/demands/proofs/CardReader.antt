@@ -13,7 +13,7 @@ use Rattle.model.proofs.Tests.{Tests, test-map, test-agree, test-and, test-or, 
 use Rattle.model.proofs.Lists.{up-to, below}
 use Rattle.calls.specs.Card.{edgesOf, risingTriples?}
 use Rattle.calls.proofs.Card.{drop-three}
-use Rattle.demands.specs.Ledger.{byte, edgeCount, edgeAt, stray, falls}
+use Rattle.demands.specs.Ledger.{byte, edgeCount, nthEdge, stray, falls}
 use Rattle.demands.proofs.Numbers.{not-not}
 
 module _ (bytes : List ℕ) where
@@ -30,10 +30,10 @@ module _ (bytes : List ℕ) where
   none-left a e = let h : length bytes ≤ 9 + 3 * a = omega (arith, e) in drop-of-length-le bytes h
 
   -- the same edges
-  pub edges-from : (a n : ℕ) → length bytes ≡ 9 + 3 * (a + n) → edgesOf (drop (9 + 3 * a) bytes) ≡ map (edgeAt bytes) (from a n)
+  pub edges-from : (a n : ℕ) → length bytes ≡ 9 + 3 * (a + n) → edgesOf (drop (9 + 3 * a) bytes) ≡ map (nthEdge bytes) (from a n)
   unfolding edgesOf from
   edges-from a zero e = rw (none-left a e) refl
-  edges-from a (suc n) e = rw (edge-here a (omega (arith, e))) (ap (λ (l : List ℕ). edgeAt bytes a ∷ l) (edges-from (suc a) n (omega (arith, e))))
+  edges-from a (suc n) e = rw (edge-here a (omega (arith, e))) (ap (λ (l : List ℕ). nthEdge bytes a ∷ l) (edges-from (suc a) n (omega (arith, e))))
 
   module _ (vertices : ℕ) where
     -- the bytes of edge i name an edge of a layout with so many vertices
@@ -45,7 +45,7 @@ module _ (bytes : List ℕ) where
     -- n edges from edge a on, which rise from above prev: as the calls read them
     abbrev Rises : (prev a n : ℕ) → Type 0
     Rises prev a zero = Unit {0}
-    Rises prev a (suc n) = ValidTriple a × ((prev < edgeAt bytes a) × Rises (edgeAt bytes a) (suc a) n)
+    Rises prev a (suc n) = ValidTriple a × ((prev < nthEdge bytes a) × Rises (nthEdge bytes a) (suc a) n)
 
     test-rises : (prev a n : ℕ) → length bytes ≡ 9 + 3 * (a + n) → Tests (risingTriples? vertices prev (drop (9 + 3 * a) bytes)) (Rises prev a n)
     unfolding risingTriples?
@@ -55,34 +55,34 @@ module _ (bytes : List ℕ) where
         (test-and
         (test-and (test-and (test-lt (byte bytes (9 + 3 * a)) vertices) (test-lt (byte bytes (11 + 3 * a)) vertices))
         (test-and (test-le 1 (byte bytes (10 + 3 * a))) (test-le (byte bytes (10 + 3 * a)) 8)))
-        (test-and (test-lt prev (edgeAt bytes a)) (test-rises (edgeAt bytes a) (suc a) n (omega (arith, e)))))
+        (test-and (test-lt prev (nthEdge bytes a)) (test-rises (nthEdge bytes a) (suc a) n (omega (arith, e)))))
 
     -- as the ledger reads them
     record RightBytes (a n : ℕ) : Type 0 where
       edges : (i : ℕ) → a ≤ i → i < a + n → ValidTriple i
-      up : (i : ℕ) → a ≤ i → i + 1 < a + n → edgeAt bytes i < edgeAt bytes (i + 1)
+      up : (i : ℕ) → a ≤ i → i + 1 < a + n → nthEdge bytes i < nthEdge bytes (i + 1)
 
     rises-right : (prev a n : ℕ) → Rises prev a n → RightBytes a n
     rises-right prev a zero r = record { edges = λ i h k. absurd (omega (arith, h, k)); up = λ i h k. absurd (omega (arith, h, k)) }
     rises-right prev a (suc n) (l, (p, r)) =
-        let more = rises-right (edgeAt bytes a) (suc a) n r in
+        let more = rises-right (nthEdge bytes a) (suc a) n r in
         record {
           edges = λ i h k. elim (ℕ-discrete i a) [ yes e ↦ rw e l | no d ↦ more .edges i (omega (arith, h, d)) (omega (arith, k)) ];
           up = λ i h k. elim (ℕ-discrete i a) [ yes e ↦ rw e (second n r (omega (arith, k, e))) | no d ↦ more .up i (omega (arith, h, d)) (omega (arith, k)) ];
         }
       where
-        second : (n : ℕ) → Rises (edgeAt bytes a) (suc a) n → 1 ≤ n → edgeAt bytes a < edgeAt bytes (a + 1)
+        second : (n : ℕ) → Rises (nthEdge bytes a) (suc a) n → 1 ≤ n → nthEdge bytes a < nthEdge bytes (a + 1)
         second zero r h = absurd (omega (arith, h))
         second (suc n) (l, (p, r)) h = let e : a + 1 ≡ suc a = omega arith in rw e p
 
-    right-rises : (prev a n : ℕ) → (1 ≤ n → prev < edgeAt bytes a) → RightBytes a n → Rises prev a n
+    right-rises : (prev a n : ℕ) → (1 ≤ n → prev < nthEdge bytes a) → RightBytes a n → Rises prev a n
     right-rises prev a zero first r = tt
     right-rises prev a (suc n) first r =
         let e : a + 1 ≡ suc a = omega arith in (
           r .edges a (omega arith) (omega arith),
           (
             first (omega arith),
-            right-rises (edgeAt bytes a) (suc a) n (λ h. rw e at (r .up a (omega arith) (omega (arith, h))))
+            right-rises (nthEdge bytes a) (suc a) n (λ h. rw e at (r .up a (omega arith) (omega (arith, h))))
                 (record { edges = λ i h k. r .edges i (omega (arith, h)) (omega (arith, k)); up = λ i h k. r .up i (omega (arith, h)) (omega (arith, k)) }),
           ),
         )
@@ -135,18 +135,18 @@ module _ (bytes : List ℕ) where
   abbrev Wrong : Type 0
   Wrong =
       ((i : ℕ) × List·Memᴰ i (upTo n) × (¬ (ValidTriple v i)))
-      ⊎ ((i : ℕ) × List·Memᴰ i (upTo (n - 1)) × (edgeAt bytes (i + 1) ≤ edgeAt bytes i))
+      ⊎ ((i : ℕ) × List·Memᴰ i (upTo (n - 1)) × (nthEdge bytes (i + 1) ≤ nthEdge bytes i))
 
   test-right : Tests (not (any? (stray bytes) (upTo n) || any? (falls bytes) (upTo (n - 1)))) (RightBytes v 0 n)
   test-right =
       test-map there back
-      (test-not (test-or (test-any test-stray (upTo n)) (test-any (λ i. test-le (edgeAt bytes (i + 1)) (edgeAt bytes i)) (upTo (n - 1)))))
+      (test-not (test-or (test-any test-stray (upTo n)) (test-any (λ i. test-le (nthEdge bytes (i + 1)) (nthEdge bytes i)) (upTo (n - 1)))))
     where
       there : ¬ Wrong → RightBytes v 0 n
       there w =
           record {
             edges = λ i _ k. edge-known i (λ d. w (inl (i, up-to (omega (arith, k)), d)));
-            up = λ i _ k. elim (decLt (edgeAt bytes i) (edgeAt bytes (i + 1))) [
+            up = λ i _ k. elim (decLt (nthEdge bytes i) (nthEdge bytes (i + 1))) [
               | yes h ↦ h
               | no h ↦ absurd (w (inr (i, up-to (omega (arith, k)), omega (arith, h))))
             ];
@@ -166,5 +166,5 @@ module _ (bytes : List ℕ) where
       back r = right-rises v 0 0 n (λ h. let l = r .edges 0 (omega arith) (omega (arith, h)) .1 .0 in omega (arith, l)) r
 
   -- and its edges
-  pub edges-agree : length bytes ≡ 9 + 3 * n → edgesOf (drop headBytes bytes) ≡ map (edgeAt bytes) (upTo n)
+  pub edges-agree : length bytes ≡ 9 + 3 * n → edgesOf (drop headBytes bytes) ≡ map (nthEdge bytes) (upTo n)
   edges-agree e = edges-from 0 n (omega (arith, e))

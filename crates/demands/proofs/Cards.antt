@@ -19,7 +19,7 @@ use Rattle.calls.proofs.Checks.{test-longest}
 use Rattle.calls.proofs.Card.{marked-short, marked-at, card-edges-long, card-edges-body, triples-good, length-edges, card-vertices}
 use Rattle.calls.proofs.Settling.{Result, settledChange, settled}
 use Rattle.calls.proofs.Passing.{passing}
-use Rattle.demands.specs.Ledger.{Book, card as cardGiven, rising, bookEntries, narrow, full, byte, edgeCount, edgeAt, stray, falls, cardBook, cardNumber, nothing, turn}
+use Rattle.demands.specs.Ledger.{Book, card as cardGiven, rising, bookEntries, narrow, full, byte, edgeCount, nthEdge, stray, falls, cardBook, cardNumber, nothing, turn}
 use Rattle.demands.specs.Terms.{replyTo}
 use Rattle.demands.specs.Run.Station.{Call, Station, memoryOf, fedBy}
 use Rattle.demands.proofs.Rising.{EdgesOf, rising-is}
@@ -60,7 +60,7 @@ module _ (card : List ℕ) (bytes : Bytes card) (work : List ℕ) where
   record WholeCard : Type 0 where
     size : length card ≡ 9 + 3 * n
     count : length wanted ≡ n
-    edges-are : map (edgeAt card) (upTo n) ≡ wanted
+    edges-are : map (nthEdge card) (upTo n) ≡ wanted
     valid : EdgesOf (headerOf card .vertices) wanted
     rises : rising wanted ≡ wanted
 
@@ -125,7 +125,7 @@ module _ (card : List ℕ) (bytes : Bytes card) (work : List ℕ) where
         let w = whole edges in
         let (c, d) = test-yields (test-longest (headerOf card .longest)) k in
         let space : n ≤ slots = rw wide at (test-yields (test-le (countOf card) (length (s .edges))) nine) in
-        let is : rising (map (edgeAt card) (upTo n)) ≡ wanted = rw (w .edges-are) (w .rises) in
+        let is : rising (map (nthEdge card) (upTo n)) ≡ wanted = rw (w .edges-are) (w .rises) in
         record {
           reply = refl;
           edges = rw (wide, is) refl;

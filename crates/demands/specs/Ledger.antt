@@ -39,7 +39,7 @@ bookEntries b = determined (record { vertices = b .vertices; longest = b .longes
 
 -- ---- refusals: the table's conditions, in each call's order
 
--- the number where the condition applies, else what the later ones give
+-- the number if the condition applies, else what the later ones give
 abbrev pub when : Bool → ℕ → ℕ → ℕ
 when true number later = number
 when false number later = later
@@ -106,8 +106,8 @@ module _ (bytes : List ℕ) where
   abbrev pub edgeByte : ℕ → ℕ → ℕ
   edgeByte i j = byte (headBytes + j + tripleBytes * i)
 
-  abbrev pub edgeAt : ℕ → ℕ
-  edgeAt i = edgeNumber (edgeByte i 0) (edgeByte i 1) (edgeByte i 2)
+  abbrev pub nthEdge : ℕ → ℕ
+  nthEdge i = edgeNumber (edgeByte i 0) (edgeByte i 1) (edgeByte i 2)
 
   -- edge i is none of a layout with the card's vertices
   abbrev pub stray : ℕ → Bool
@@ -115,10 +115,10 @@ module _ (bytes : List ℕ) where
 
   -- edge i + 1 does not rise
   abbrev pub falls : ℕ → Bool
-  falls i = leb (edgeAt (i + 1)) (edgeAt i)
+  falls i = leb (nthEdge (i + 1)) (nthEdge i)
 
   unfoldable pub cardBook : Book
-  cardBook = record { vertices = byte 5 + 1; longest = byte 6; edges = map edgeAt (upTo edgeCount) }
+  cardBook = record { vertices = byte 5 + 1; longest = byte 6; edges = map nthEdge (upTo edgeCount) }
 
   -- "Read card 14 15 2 16 3 9 4 13"
   unfoldable pub cardNumber : Fed → ℕ

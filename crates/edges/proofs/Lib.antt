@@ -1,5 +1,5 @@
 pub mod Memory
 pub mod Scanning
-pub mod Halving
+pub mod BinarySearch
 pub mod Shift
 pub mod Slots

@@ -12,7 +12,7 @@ use Rattle.edges.specs.Memory.{scanOf}
 use Rattle.edges.specs.declared.Scanned.{Scanned}
 use Rattle.edges.specs.declared.Scanned.the-variants.{Edges, Invalid}
 
--- what check 3 finds where i edges stand before s, the last of them prev
+-- what check 3 finds if i edges stand before s, the last of them prev
 abbrev pub scanFrom : ℕ → ℕ → ℕ → List ℕ → Scanned
 scanFrom vertices prev i s = checkedFrom Edges Invalid (edge? vertices) prev i s
 

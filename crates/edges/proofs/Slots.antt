@@ -27,7 +27,7 @@ under-none edges key = record { most = omega arith; below = λ j h. absurd (omeg
 pub skipped-least : {edges : List ℕ} {key n : ℕ} → Rising edges → Skipped edges key n → (i : ℕ) → n ≤ i → i < length edges → key ≤ getD edges i 0
 skipped-least s k i h b = omega (arith, k .reached (omega arith), rising-le s _ i h b)
 
--- the table where the slots of the vertices below v are written
+-- the table once the slots of the vertices below v are written
 pub starts-none : (edges : List ℕ) → Starts edges (replicate mostVertices 0)
 starts-none edges = record {
   long = length-replicate {A = ℕ} mostVertices 0;

@@ -78,7 +78,7 @@ pub fn scan(vertices: u32, edges: &[u32]) -> Scanned
     Scanned::Edges(i)
 }
 
-// Where an edge stands among the first n, by halving.
+// Where an edge stands among the first n, by binary search.
 pub fn find(edges: &[u32], n: usize, edge: u32) -> Found
     requires { ⌜ (n ≤ length (now edges)) × Rising (take n (now edges)) ⌝ }
     ensures { λ r. ⌜ r ≡ findOf edge (take n (now (edges .entry))) ⌝ }

@@ -110,13 +110,13 @@ module _ (vertices : ℕ) (edges l : List ℕ) (s : ℕ) where
 
   module _ (t limit : ℕ) where
     -- c levels are built, none of them had (t, 0), and work memory stands at the last
-    pub record Built (w : List ℕ) (lo hi c : ℕ) : Type 0 where
+    pub record LevelsBuilt (w : List ℕ) (lo hi c : ℕ) : Type 0 where
       pub within : c ≤ limit
       pub stands : LevelStands c w lo hi
       pub unseen : Met (bare vertices edges) l s c t → ⊥
       pub so-far : foundBy vertices edges l s t limit ≡ replyFrom (bare vertices edges) l t (limit - c) c (stage (bare vertices edges) l s c)
 
-    module _ (p : Searchable vertices edges l s t) {w : List ℕ} {lo hi c : ℕ} (b : Built w lo hi c) (more : c < limit) {w′ : List ℕ} {end : ℕ} (g : Grown w hi w′ end (LedTo edges l w lo hi)) where
+    module _ (p : Searchable vertices edges l s t) {w : List ℕ} {lo hi c : ℕ} (b : LevelsBuilt w lo hi c) (more : c < limit) {w′ : List ℕ} {end : ℕ} (g : Grown w hi w′ end (LedTo edges l w lo hi)) where
       now-at : LevelStands (suc c) w′ hi end
       now-at = stands-next p (b .stands) g
 
@@ -125,7 +125,7 @@ module _ (vertices : ℕ) (edges l : List ℕ) (s : ℕ) where
       so-far′ = let left : limit - c ≡ suc (limit - (c + 1)) = omega arith in
           b .so-far ∙ ap (λ (n : ℕ). replyFrom (bare vertices edges) l t n c (stage (bare vertices edges) l s c)) left
 
-      -- (t, 0) is marked where the new level has it
+      -- (t, 0) is marked if the new level has it
       in-new : getD w′ t 0 ≡ 1 → t ∈ level (bare vertices edges) l s (suc c)
       in-new e =
           let m = now-at .in-met t (omega (arith, p .vertices-small, p .destination)) e in
@@ -140,7 +140,7 @@ module _ (vertices : ℕ) (edges l : List ℕ) (s : ℕ) where
       pub built-no : end ≡ hi → No (c + 1) ≡ foundBy vertices edges l s t limit
       built-no e = ap No (add-one c) ∙ sym (so-far′ ∙ reply-no (bare vertices edges) l s t _ c (λ y m. let q = now-at .all-level y m in omega (arith, q .from, q .to)))
 
-      pub built-on : (getD w′ t 0 ≡ 1 → ⊥) → (end ≡ hi → ⊥) → Built w′ hi end (c + 1)
+      pub built-on : (getD w′ t 0 ≡ 1 → ⊥) → (end ≡ hi → ⊥) → LevelsBuilt w′ hi end (c + 1)
       built-on d e = record {
         within = omega arith;
         stands = rw add-one now-at;
@@ -150,14 +150,14 @@ module _ (vertices : ℕ) (edges l : List ℕ) (s : ℕ) where
             ∙ ap (λ (n : ℕ). replyFrom (bare vertices edges) l t (limit - (c + 1)) n (stage (bare vertices edges) l s n)) (sym (add-one c));
       }
 
-    pub built-spent : {w : List ℕ} {lo hi c : ℕ} → Built w lo hi c → limit ≤ c → Spent limit ≡ foundBy vertices edges l s t limit
+    pub built-spent : {w : List ℕ} {lo hi c : ℕ} → LevelsBuilt w lo hi c → limit ≤ c → Spent limit ≡ foundBy vertices edges l s t limit
     unfolding replyFrom
     built-spent {c = c} b h =
         let none : limit - c ≡ 0 = omega arith in
         let same : limit ≡ c = omega (arith, b .within) in
         ap Spent same ∙ sym (b .so-far ∙ ap (λ (n : ℕ). replyFrom (bare vertices edges) l t n c (stage (bare vertices edges) l s c)) none)
 
-    pub built-start : {w : List ℕ} → LevelStands 0 w 0 1 → Built w 0 1 0
+    pub built-start : {w : List ℕ} → LevelStands 0 w 0 1 → LevelsBuilt w 0 1 0
     unfolding levelReply
     built-start a = record {
       within = zero-le;

@@ -17,7 +17,7 @@ use Rattle.store.specs.Store.{returned}
 use Rattle.store.specs.declared.Changed.{Changed}
 use Rattle.printing.specs.Puts.{Puts}
 use Rattle.printing.specs.Lines.{listing, refusedLine}
-use Rattle.listing.specs.Listing.{blank, text, printed}
+use Rattle.listing.specs.Listing.{listedMemory, text, printed}
 
 module _ {c : Outcome Returned} {r : Changed} {edges index work : List ℕ} (m : Meets c (returned r) (lent edges index work)) where
   text-listing : r .answer ≡ Accepted
@@ -30,7 +30,7 @@ module _ {c : Outcome Returned} {r : Changed} {edges index work : List ℕ} (m :
       rw (sym (m .reply-is), e, ne-eqb (numberOf refusal) 0 (λ z. omega (arith, number-some refusal))) refl
 
 -- the lines put for an accepted card, and for a refused one
-module _ (card : List ℕ) {r : Changed} {edges index work out out′ : List ℕ} {end : ℕ} (m : Meets (readCall card blank) (returned r) (lent edges index work)) where
+module _ (card : List ℕ) {r : Changed} {edges index work out out′ : List ℕ} {end : ℕ} (m : Meets (readCall card listedMemory) (returned r) (lent edges index work)) where
   pub puts-listing : {a n : ℕ} → r .answer ≡ Accepted → a ≡ length (standing edges) → n ≡ length (standing index)
       → Puts out 0 (listing (r .header .vertices) (r .header .longest) a (take n index)) out′ end → Puts out 0 (printed card) out′ end
   unfolding printed

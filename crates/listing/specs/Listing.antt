@@ -14,8 +14,8 @@ use Rattle.printing.specs.Lines.{listing, refusedLine}
 abbrev pub listedSlots : ℕ
 listedSlots = 1024
 
-abbrev pub blank : Memory
-blank = lent (replicate mostEdges 0) (replicate listedSlots 0) (replicate (leastWork + listedSlots) 0)
+abbrev pub listedMemory : Memory
+listedMemory = lent (replicate mostEdges 0) (replicate listedSlots 0) (replicate (leastWork + listedSlots) 0)
 
 -- the whole output after a card reading: header and entries in slot order, or "`refused` and its number"
 abbrev pub text : Outcome Returned → List ℕ
@@ -25,4 +25,4 @@ text c =
     (refusedLine (c .reply .answer))
 
 unfoldable pub printed : List ℕ → List ℕ
-printed card = text (readCall card blank)
+printed card = text (readCall card listedMemory)

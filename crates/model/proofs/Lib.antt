@@ -1,6 +1,6 @@
 pub mod Tests
 pub mod Lists
-pub mod Halving
+pub mod BinarySearch
 pub mod Patterns
 pub mod Walks
 pub mod Levels

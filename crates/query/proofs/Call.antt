@@ -22,7 +22,7 @@ use Rattle.calls.specs.Call.{Header, Memory, Meets}
 use Rattle.calls.specs.Query.{queryRefusal, queryCall, saying}
 use Rattle.calls.proofs.Checks.{none, pass, first-is, passes, Passed, done, also, bounded, test-ends}
 use Rattle.calls.proofs.Calls.{refused-meets, accepted-is}
-use Rattle.scan.specs.Memory.{scanOf}
+use Rattle.scan.specs.Memory.{extentOf}
 use Rattle.scan.specs.declared.Extent.the-variants.{Entries}
 use Rattle.scan.proofs.Scanning.{scans}
 use Rattle.answer.specs.Saying.{Answerable, Says}
@@ -78,7 +78,7 @@ earlier-leaves h start destination pattern e = elim (passes (earlierChecks h sta
 -- all checks have passed, and n entries stand
 pub record Admitted (h : Header) (start destination : ℕ) (pattern : List ℕ) (m : Memory) (n : ℕ) : Type 0 where
   pub earlier : earlierRefusal h start destination pattern ≡ 0
-  pub scanned : scanOf (h .vertices) (h .longest) (m .index) ≡ Entries n
+  pub scanned : extentOf (h .vertices) (h .longest) (m .index) ≡ Entries n
 
 module _ {h : Header} {s t : ℕ} {pattern : List ℕ} {m : Memory} {n : ℕ} (p : Admitted h s t pattern m n) (size : ℕ) (is : size ≡ foldedLength pattern) where
   given : Allowed h s t pattern

@@ -10,7 +10,7 @@ use Rattle.model.specs.Edges.{standing}
 use Rattle.model.specs.Computed.Edges.{zeros?}
 use Rattle.model.specs.Computed.Query.{entry?, risingEntries?, indexMemory?}
 use Rattle.model.proofs.Checked.{checked-rest, checked-next}
-use Rattle.scan.specs.Memory.{scanOf, scanFrom}
+use Rattle.scan.specs.Memory.{extentOf, scanFrom}
 use Rattle.scan.specs.declared.Extent.the-variants.{Entries, Invalid}
 
 module _ (vertices longest prev : ℕ) (s : List ℕ) (i : ℕ) where
@@ -26,22 +26,22 @@ module _ (vertices longest prev : ℕ) (s : List ℕ) (i : ℕ) where
   scan-next = checked-next Entries Invalid (entry? vertices longest) prev s i
 
 module _ (vertices longest : ℕ) (s : List ℕ) where
-  pub scan-start : scanFrom vertices longest 0 0 s ≡ scanOf vertices longest s
-  unfolding scanFrom scanOf indexMemory?
+  pub scan-start : scanFrom vertices longest 0 0 s ≡ extentOf vertices longest s
+  unfolding scanFrom extentOf indexMemory?
   scan-start = rw zero-add
 
   -- ---- for callers
 
-  pub scans : {n : ℕ} → scanOf vertices longest s ≡ Entries n → (indexMemory? vertices longest s ≡ true) × (n ≡ length (standing s))
-  unfolding scanOf
+  pub scans : {n : ℕ} → extentOf vertices longest s ≡ Entries n → (indexMemory? vertices longest s ≡ true) × (n ≡ length (standing s))
+  unfolding extentOf
   scans {n} e = go (indexMemory? vertices longest s) e
     where
       go : (b : Bool) → cond b (Entries (length (standing s))) Invalid ≡ Entries n → (b ≡ true) × (n ≡ length (standing s))
       go true e = (refl, cc)
       go false e = absurd (let z : _≡_ {A = ℕ} 0 1 = cc in omega arith)
 
-  pub scans-none : scanOf vertices longest s ≡ Invalid → indexMemory? vertices longest s ≡ false
-  unfolding scanOf
+  pub scans-none : extentOf vertices longest s ≡ Invalid → indexMemory? vertices longest s ≡ false
+  unfolding extentOf
   scans-none e = go (indexMemory? vertices longest s) e
     where
       go : (b : Bool) → cond b (Entries (length (standing s))) Invalid ≡ Invalid → b ≡ false

@@ -9,8 +9,8 @@ use Rattle.scan.specs.declared.Extent.{Extent}
 use Rattle.scan.specs.declared.Extent.the-variants.{Entries, Invalid}
 
 -- check 12: the number of entries, or that this is no index memory of the graph
-unfoldable pub scanOf : ℕ → ℕ → List ℕ → Extent
-scanOf vertices longest xs = cond (indexMemory? vertices longest xs) (Entries (length (standing xs))) Invalid
+unfoldable pub extentOf : ℕ → ℕ → List ℕ → Extent
+extentOf vertices longest xs = cond (indexMemory? vertices longest xs) (Entries (length (standing xs))) Invalid
 
 -- what check 12 finds if i entries stand before s, the last of them prev
 unfoldable pub scanFrom : ℕ → ℕ → ℕ → ℕ → List ℕ → Extent

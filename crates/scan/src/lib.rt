@@ -13,7 +13,7 @@ ghost use lib.ListN.{length};
 ghost use Rattle.model.specs.Limits.{codeDigits, hubUnit};
 ghost use Rattle.model.specs.Computed.Patterns.{keyed?, own?};
 ghost use Rattle.model.specs.Computed.Query.{digits, code?};
-ghost use Rattle.scan.specs.Memory.{scanOf};
+ghost use Rattle.scan.specs.Memory.{extentOf};
 ghost use Rattle.scan.specs.Codes.{slotOf, Detects, Repeats, Spelled, Repeatable};
 ghost use Rattle.scan.specs.Scan.{Seen, Examines, FieldEnd, Skims};
 
@@ -187,7 +187,7 @@ fn skim(index: &[u64], from: usize, prev: u64, end: u64, hubs: u64, seen: &[Kept
 
 // Check 12, in one pass. From the last entry to `end`, side and owner are right.
 pub fn scan(vertices: u32, longest: u32, index: &[u64]) -> Extent
-    ensures { λ r. ⌜ r ≡ scanOf vertices longest (now (index .entry)) ⌝ }
+    ensures { λ r. ⌜ r ≡ extentOf vertices longest (now (index .entry)) ⌝ }
 {
     // no code is kept yet; as 0 is none, its slot, 0, holds another number
     let mut seen: [Kept; SLOTS] = [0; SLOTS];

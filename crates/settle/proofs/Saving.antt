@@ -7,7 +7,7 @@ use lib.ListN.{length, take, drop, length-append}
 use lib.Seq.{length-take-le, take-append-le, take-append-seam, drop-at}
 use Rattle.rows.specs.Region.{savedNumbers}
 
--- edge memory stands at the saving place once it is copied to the front of the part from there on
+-- edge memory stands in the saved region once it is copied to the front of the part from there on
 pub saved-there : (edges work part rest behind : List ℕ) → savedNumbers ≤ length work → part ≡ edges ++ rest
     → take (length edges) (drop savedNumbers (take savedNumbers work ++ (part ++ behind))) ≡ edges
 saved-there edges work part rest behind h e =

@@ -1,7 +1,7 @@
 -- `answer::has` meets its contract: an entry stands at the slot where it belongs, or nowhere.
 use mathlib.Core.Path.{sym}
 use borrow.Author.Needs.{needs}
-use Rattle.model.proofs.Halving.{has-at, has-none}
+use Rattle.model.proofs.BinarySearch.{has-at, has-none}
 use Rattle.answer.proofs.has.Statement.{statement}
 use Rattle.answer.proofs.has.Tie as tie
 

@@ -3,7 +3,7 @@ use Prim.Native.Nat.{_-_}
 use native.Mathlib.Omega.{arith}
 use borrow.Author.Needs.{needs}
 use Rattle.model.specs.Computed.Lists.{Bracket}
-use Rattle.model.proofs.Halving.{bracket-start, bracket-right, bracket-left, bracket-met}
+use Rattle.model.proofs.BinarySearch.{bracket-start, bracket-right, bracket-left, bracket-met}
 use Rattle.answer.proofs.lower_bound.Statement.{statement}
 use Rattle.answer.proofs.lower_bound.Tie as tie
 

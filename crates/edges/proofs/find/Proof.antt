@@ -3,7 +3,7 @@ use mathlib.Core.Path.{sym}
 use Prim.Native.Nat.{_-_}
 use native.Mathlib.Omega.{arith}
 use borrow.Author.Needs.{needs}
-use Rattle.edges.proofs.Halving.{Sought, sought-start, sought-right, sought-left, sought-at, sought-before}
+use Rattle.edges.proofs.BinarySearch.{Sought, sought-start, sought-right, sought-left, sought-at, sought-before}
 use Rattle.edges.proofs.find.Statement.{statement}
 use Rattle.edges.proofs.find.Tie as tie
 

@@ -3,13 +3,13 @@ use mathlib.Core.Path.{_≡_, refl, _∙_}
 use Prim.Native.Nat.{_-_}
 use native.Mathlib.Omega.{arith}
 use lib.ListN.{length, length-set}
-use Rattle.level_search.proofs.Stands.{stands-start, Built, built-start, built-yes, built-no, built-on, built-spent}
+use Rattle.level_search.proofs.Stands.{stands-start, LevelsBuilt, built-start, built-yes, built-no, built-on, built-spent}
 use borrow.Author.Needs.{needs}
 use Rattle.level_search.proofs.levels.Statement.{statement}
 use Rattle.level_search.proofs.levels.Tie as tie
 
 abbrev Inv-loop : tie.InvT-loop
-Inv-loop vertices edges pattern s t limit work₀ slots lo₀ hi₀ c₀ work lo hi c = Built vertices edges pattern s t limit work lo hi c × (length work ≡ length work₀)
+Inv-loop vertices edges pattern s t limit work₀ slots lo₀ hi₀ c₀ work lo hi c = LevelsBuilt vertices edges pattern s t limit work lo hi c × (length work ≡ length work₀)
 
 abbrev μ-loop : tie.MeasureT-loop
 μ-loop vertices edges pattern s t limit work₀ slots lo₀ hi₀ c₀ work lo hi c = limit - c

@@ -8,7 +8,7 @@ use Rattle.level_search.proofs.Grow.{room-left, grown-old, grown-new}
 use Rattle.level_search.proofs.reach.Statement.{statement}
 use Rattle.level_search.proofs.reach.Tie as tie
 
--- where y is not marked, the queue has room
+-- if y is not marked, the queue has room
 left : (c : tie.Else1) → c .before .before .args .tail ≤ mostStates
 left c = room-left _ _ _ (c .before .before .pre .0) (c .before .before .pre .1) (c .if1 .left)
 

@@ -10,7 +10,7 @@ use lib.ListN.{length, getD, take, drop}
 use Rattle.model.specs.Computed.Edges.{zeros?}
 use Rattle.model.specs.Computed.Query.{sideOf, entry?}
 use Rattle.model.proofs.Checked.{checked-zeros}
-use Rattle.scan.specs.Memory.{scanOf, scanFrom}
+use Rattle.scan.specs.Memory.{extentOf, scanFrom}
 use Rattle.scan.specs.Scan.{Seen, Within, extentAt}
 use Rattle.scan.specs.declared.Extent.{Extent}
 use Rattle.scan.specs.declared.Extent.the-variants.{Entries, Invalid}
@@ -23,7 +23,7 @@ use Rattle.scan.proofs.scan.Tie as tie
 abbrev Inv-loop : tie.InvT-loop
 Inv-loop vertices longest index seen₀ n i₀ prev₀ end₀ seen i prev end =
     (i ≤ length index)
-    × ((scanFrom vertices longest prev i (drop i index) ≡ scanOf vertices longest index) × (Seen longest seen × Within vertices prev end))
+    × ((scanFrom vertices longest prev i (drop i index) ≡ extentOf vertices longest index) × (Seen longest seen × Within vertices prev end))
 
 abbrev μ-loop : tie.MeasureT-loop
 μ-loop vertices longest index seen₀ n i₀ prev₀ end₀ seen i prev end = length index - i
@@ -35,7 +35,7 @@ abbrev slots : tie.After-skim Inv-loop μ-loop → List ℕ
 slots c = start c .args .index .now
 
 abbrev whole : tie.After-skim Inv-loop μ-loop → Extent
-whole c = scanOf (start c .args .vertices) (start c .args .longest) (slots c)
+whole c = extentOf (start c .args .vertices) (start c .args .longest) (slots c)
 
 -- how skim was left says what all slots say
 skimmed : (c : tie.After-skim Inv-loop μ-loop) {r : Exit} → c .skim .result ≡ r

@@ -1,4 +1,4 @@
--- `settle::save` meets its contract: edge memory is copied to the front of the part from the saving place on.
+-- `settle::save` meets its contract: edge memory is copied to the front of the part from the saved region on.
 use Prim.Native.Nat.{_-_}
 use native.Mathlib.Omega.{arith}
 use lib.ListN.{length}

@@ -1,4 +1,4 @@
--- The lookup by halving, among the first edges of a memory, and what is found where both ends meet.
+-- Binary search among the first edges of a memory, and what is found once both ends meet.
 use mathlib.Core.Path.{_≡_, refl, ap}
 use mathlib.Core.Logic.{_≢_}
 use mathlib.Core.List.{List, [], _∷_}
@@ -10,7 +10,7 @@ use lib.Seq.{getD-take, length-take-le}
 use borrow.Author.Tests.{lt-ltb, le-ltb}
 use Rattle.model.specs.Lists.{Rising}
 use Rattle.model.specs.Computed.Lists.{lowerBound, Bracket}
-use Rattle.model.proofs.Halving.{bracket-start, bracket-right, bracket-left}
+use Rattle.model.proofs.BinarySearch.{bracket-start, bracket-right, bracket-left}
 use Rattle.edges.specs.Memory.{findOf}
 use Rattle.edges.specs.declared.Found.the-variants.{At, Before}
 use Rattle.edges.proofs.Memory.{find-at, find-before}
