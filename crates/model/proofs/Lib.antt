@@ -2,6 +2,7 @@ pub mod Tests
 pub mod Lists
 pub mod BinarySearch
 pub mod Patterns
+pub mod Table
 pub mod Walks
 pub mod Levels
 pub mod Search

@@ -3,13 +3,13 @@ use mathlib.Core.Path.{_≡_, refl, sym, ap, _∙_}
 use mathlib.Core.Logic.{_⊎_, inl, inr, ⊎-elim, _≢_}
 use mathlib.Core.Bool.{Bool, true, false, not}
 use mathlib.Core.List.{List, [], _∷_, _++_, append-nil, List·Memᴰ, List·Memᴰ·head, List·Memᴰ·tail, List·Memᴰ·cases-cons, List·Memᴰ·not-nil, List·Memᴰ·append-cases, Memᴰ·append-left, Memᴰ·append-right, Memᴰ·of-map, map}
-use Prim.Native.Nat.{ℕ, zero, suc, _+_, _-_, _≤_, _<_}
-use native.Mathlib.Nat.{eq-or-lt-of-le, le-of-suc-le-suc, not-suc-le-zero, le-of-eq}
+use Prim.Native.Nat.{ℕ, zero, suc, _+_, _-_, _*_, _≤_, _<_}
+use native.Mathlib.Nat.{eq-or-lt-of-le, le-of-suc-le-suc, not-suc-le-zero, le-of-eq, suc-mul}
 use native.Mathlib.Decide.{ℕ-discrete}
 use native.Mathlib.Omega.{arith}
 use lib.Dec.{T}
-use lib.ListN.{length, getD, set, take, drop, length-drop, drop-of-length-le}
-use lib.Seq.{getD-set-same, getD-set-other, take-all}
+use lib.ListN.{length, getD, set, take, drop, length-append, length-drop, drop-of-length-le, List·getD-append}
+use lib.Seq.{getD-append-add, getD-set-same, getD-set-other, take-all}
 use Rattle.model.specs.Lists.{put, keep, from, upTo, Sorted, none, next, Rising}
 use Rattle.model.specs.Computed.Lists.{spread}
 
@@ -121,15 +121,55 @@ module _ {A B : Type 0} {R : A → A → Type 0} {S : B → B → Type 0} where
 
 -- ---- lists by their indices
 
+-- of any elements, with d (and e) for what stands behind the last
+module _ {A : Type 0} (d : A) where
+  pub at-in : (l : List A) (i : ℕ) → i < length l → List·Memᴰ (getD l i d) l
+  at-in [] i h = absurd (not-suc-le-zero h)
+  at-in (x ∷ l) zero h = List·Memᴰ·head refl
+  at-in (x ∷ l) (suc i) h = List·Memᴰ·tail (at-in l i (le-of-suc-le-suc h))
+
+  pub at-sorted : {R : A → A → Type 0} {l : List A} → Sorted R l → (p q : ℕ) → p < q → q < length l → R (getD l p d) (getD l q d)
+  at-sorted none p q h k = absurd (not-suc-le-zero k)
+  at-sorted (next {l = l} f s) zero zero h k = absurd (omega arith)
+  at-sorted (next {l = l} f s) zero (suc q) h k = f (getD l q d) (at-in l q (le-of-suc-le-suc k))
+  at-sorted (next f s) (suc p) zero h k = absurd (not-suc-le-zero h)
+  at-sorted (next f s) (suc p) (suc q) h k = at-sorted s p q (le-of-suc-le-suc h) (le-of-suc-le-suc k)
+
+module _ {A B : Type 0} (d : A) (e : B) where
+  pub at-map : (f : A → B) (l : List A) (i : ℕ) → i < length l → getD (map f l) i e ≡ f (getD l i d)
+  at-map f [] i h = absurd (not-suc-le-zero h)
+  at-map f (x ∷ l) zero h = refl
+  at-map f (x ∷ l) (suc i) h = at-map f l i (le-of-suc-le-suc h)
+
+  -- lists f x that all have n elements
+  pub length-spread : (f : A → List B) (n : ℕ) → ((x : A) → length (f x) ≡ n) → (l : List A) → length (spread f l) ≡ length l * n
+  unfolding spread
+  length-spread f n h [] = omega arith
+  length-spread f n h (x ∷ l) = omega (arith, length-append (f x) (spread f l), h x, length-spread f n h l, suc-mul (length l) n)
+
+  pub at-spread : (f : A → List B) (n : ℕ) → ((x : A) → length (f x) ≡ n) → (l : List A) (i j : ℕ) → i < length l → j < n
+      → getD (spread f l) (i * n + j) e ≡ getD (f (getD l i d)) j e
+  unfolding spread
+  at-spread f n h [] i j p q = absurd (not-suc-le-zero p)
+  at-spread f n h (x ∷ l) zero j p q =
+      let first : 0 * n + j ≡ j = omega arith in
+      rw first (List·getD-append (f x) (spread f l) e j (omega (arith, h x)))
+  at-spread f n h (x ∷ l) (suc i) j p q =
+      let later : suc i * n + j ≡ length (f x) + (i * n + j) = omega (arith, h x, suc-mul i n) in
+      rw later (getD-append-add (f x) (spread f l) (i * n + j) e ∙ at-spread f n h l i j (le-of-suc-le-suc p) q)
+
+pub at-from : (a m i : ℕ) → i < m → getD (from a m) i 0 ≡ a + i
+unfolding from
+at-from a zero i h = absurd (not-suc-le-zero h)
+at-from a (suc m) zero h = omega arith
+at-from a (suc m) (suc i) h = omega (arith, at-from (suc a) m i (le-of-suc-le-suc h))
+
+-- of numbers
 pub getD-in : (l : List ℕ) (i : ℕ) → i < length l → List·Memᴰ (getD l i 0) l
-getD-in [] i h = absurd (not-suc-le-zero h)
-getD-in (x ∷ l) zero h = List·Memᴰ·head refl
-getD-in (x ∷ l) (suc i) h = List·Memᴰ·tail (getD-in l i (le-of-suc-le-suc h))
+getD-in = at-in 0
 
 pub getD-map : (f : ℕ → ℕ) (l : List ℕ) (i : ℕ) → i < length l → getD (map f l) i 0 ≡ f (getD l i 0)
-getD-map f [] i h = absurd (not-suc-le-zero h)
-getD-map f (x ∷ l) zero h = refl
-getD-map f (x ∷ l) (suc i) h = getD-map f l i (le-of-suc-le-suc h)
+getD-map = at-map 0 0
 
 -- what stands at slot k once v is stored at slot i
 pub getD-set : (l : List ℕ) (i v k w : ℕ) → i < length l → (k ≡ i → v ≡ w) → (k ≢ i → getD l k 0 ≡ w) → getD (set l i v) k 0 ≡ w
@@ -149,11 +189,7 @@ in-getD (List·Memᴰ·head e) = record { i = 0; inside = omega arith; is = sym 
 in-getD (List·Memᴰ·tail m) = let k = in-getD m in record { i = suc (k .i); inside = omega (arith, k .inside); is = k .is }
 
 pub rising-lt : {l : List ℕ} → Rising l → (p q : ℕ) → p < q → q < length l → getD l p 0 < getD l q 0
-rising-lt none p q h k = absurd (not-suc-le-zero k)
-rising-lt (next {l = l} f s) zero zero h k = absurd (omega arith)
-rising-lt (next {l = l} f s) zero (suc q) h k = f (getD l q 0) (getD-in l q (le-of-suc-le-suc k))
-rising-lt (next f s) (suc p) zero h k = absurd (not-suc-le-zero h)
-rising-lt (next f s) (suc p) (suc q) h k = rising-lt s p q (le-of-suc-le-suc h) (le-of-suc-le-suc k)
+rising-lt = at-sorted 0
 
 pub rising-le : {l : List ℕ} → Rising l → (p q : ℕ) → p ≤ q → q < length l → getD l p 0 ≤ getD l q 0
 rising-le {l} s p q h k = ⊎-elim (λ e. omega (arith, ap (λ (n : ℕ). getD l n 0) e)) (λ b. omega (arith, rising-lt s p q b k)) (eq-or-lt-of-le h)

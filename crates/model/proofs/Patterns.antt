@@ -2,7 +2,7 @@
 use mathlib.Core.Path.{_≡_, refl, sym, ap, _∙_}
 use mathlib.Core.Logic.{⊎-elim}
 use mathlib.Core.List.{List, [], _∷_, _++_, map, append-nil, append-assoc, List·Memᴰ, List·Memᴰ·head, List·Memᴰ·tail, List·Memᴰ·cases-cons, List·Memᴰ·not-nil, List·Memᴰ·append-cases, List·Memᴰ·eq-of-singleton, Memᴰ·append-left, Memᴰ·append-right, Memᴰ·map, Memᴰ·of-map}
-use Prim.Native.Nat.{ℕ, zero, suc, _+_, _*_, _/_, _^_, _≤_, _<_}
+use Prim.Native.Nat.{ℕ, zero, suc, _+_, _-_, _*_, _/_, _^_, _≤_, _<_}
 use native.Mathlib.Nat.{mul-div-cancel, eq-or-lt-of-le, le-trans, mul-le-mul-right, le-mul-of-pos-right, one-le-pow, mul-assoc, pow-succ', lt-of-lt-of-le, le-of-suc-le-suc, not-suc-le-zero, zero-add}
 use native.Mathlib.Omega.{arith}
 use lib.ListN.{length, take, drop, length-take, length-append, take-append-drop}
@@ -10,7 +10,7 @@ use lib.Seq.{take-append-seam}
 use Rattle.model.specs.Limits.{hubUnit, mostLongest, mostLabel}
 use Rattle.model.specs.Lists.{_∈_, from, Sorted, none, next}
 use Rattle.model.specs.Patterns.{times, Keyed, MinRepeat, Pattern, codeFrom, code}
-use Rattle.model.specs.Computed.Patterns.{keyed?, repeatFrom, minRepeat, foldedLength, own?, words, patterns}
+use Rattle.model.specs.Computed.Patterns.{keyed?, repeatFrom, minRepeat, foldedLength, own?, words, keyedPatterns, patterns}
 use Rattle.model.proofs.Tests.{Tests, test-map, test-and, test-le, test-all, test-same, test-true, by-test}
 use Rattle.model.proofs.Lists.{keep-in, keep-out, from-in, from-out, rising-from, spread-in, spread-out, sorted-keep, sorted-imp, sorted-append, sorted-map, sorted-spread}
 
@@ -165,25 +165,33 @@ words-out (suc m) l h =
     let (u, v) = words-out m w k in
     rw (← e) (ap suc u, λ x q. ⊎-elim (λ e. omega (arith, from-out 1 8 c i)) (λ r. v x r) (List·Memᴰ·cases-cons q))
 
+-- all patterns of 1 to k labels, and no other words
+pub keyed-in : (k : ℕ) {l : List ℕ} → Keyed k l → l ∈ˡ keyedPatterns k
+unfolding keyedPatterns
+keyed-in zero p = absurd (omega (arith, p .long, p .short))
+keyed-in (suc k) {l} p = ⊎-elim
+    (λ e. Memᴰ·append-right (keyedPatterns k) (rw e at (words-in l (p .labels))))
+    (λ h. Memᴰ·append-left _ (keyed-in k (record { long = p .long; short = le-of-suc-le-suc h; labels = p .labels })))
+    (eq-or-lt-of-le (p .short))
+
+pub keyed-out : (k : ℕ) {l : List ℕ} → l ∈ˡ keyedPatterns k → Keyed k l
+unfolding keyedPatterns
+keyed-out zero h = absurd (List·Memᴰ·not-nil h)
+keyed-out (suc k) {l} h = ⊎-elim
+    (λ m. keyed-up (omega arith) (keyed-out k m))
+    (λ m. let (e, d) = words-out (suc k) l m in record { long = omega arith; short = omega arith; labels = d })
+    (List·Memᴰ·append-cases (keyedPatterns k) h)
+
 pub patterns-in : (k : ℕ) {l : List ℕ} → Pattern k l → l ∈ˡ patterns k
 unfolding patterns
-patterns-in zero p = absurd (omega (arith, p .keyed .long, p .keyed .short))
-patterns-in (suc k) {l} p = ⊎-elim
-    (λ e. Memᴰ·append-right (patterns k) (keep-in own? (rw e at (words-in l (p .keyed .labels))) ((test-own l (p .keyed .long)) .passes (p .own))))
-    (λ h. Memᴰ·append-left _ (patterns-in k (record { keyed = record { long = p .keyed .long; short = le-of-suc-le-suc h; labels = p .keyed .labels }; own = p .own })))
-    (eq-or-lt-of-le (p .keyed .short))
+patterns-in k {l} p = keep-in own? (keyed-in k (p .keyed)) ((test-own l (p .keyed .long)) .passes (p .own))
 
 pub patterns-out : (k : ℕ) {l : List ℕ} → l ∈ˡ patterns k → Pattern k l
 unfolding patterns
-patterns-out zero h = absurd (List·Memᴰ·not-nil h)
-patterns-out (suc k) {l} h = ⊎-elim
-    (λ m. let p = patterns-out k m in record { keyed = record { long = p .keyed .long; short = omega (arith, p .keyed .short); labels = p .keyed .labels }; own = p .own })
-    (λ m.
-    let (i, t) = keep-out own? (words (suc k)) m in
-    let (e, d) = words-out (suc k) l i in
-    let h : 1 ≤ length l = omega arith in
-    record { keyed = record { long = h; short = omega arith; labels = d }; own = (test-own l h) .yields t })
-    (List·Memᴰ·append-cases (patterns k) h)
+patterns-out k {l} h =
+    let (m, t) = keep-out own? (keyedPatterns k) h in
+    let p = keyed-out k m in
+    record { keyed = p; own = (test-own l (p .long)) .yields t }
 
 -- the codes rise
 code-low : (a : ℕ) (l : List ℕ) → a * 16 ^ length l ≤ codeFrom a l
@@ -211,10 +219,20 @@ code-high k (c ∷ m) e d =
     let long : length m ≡ k = omega arith in
     le-trans (mul-le-mul-right {m = 1} {n = 0 * 16 + c} (16 ^ k) (omega arith)) (rw long at (code-low (0 * 16 + c) m))
 
+-- a shorter pattern has the lesser code
+pub shorter-code : (l m : List ℕ) → Digits l → Digits m → length l < length m → code l < code m
+shorter-code l m d e h =
+    let long : length m ≡ suc (length m - 1) = omega arith in
+    lt-of-lt-of-le (code-lt (length m - 1) 0 1 l (omega arith) d (omega arith)) (code-high (length m - 1) m long e)
+
+pub keyed-rise : (k : ℕ) → Sorted (λ l m. code l < code m) (keyedPatterns k)
+unfolding keyedPatterns
+keyed-rise zero = none
+keyed-rise (suc k) = sorted-append (keyed-rise k) (sorted-imp (λ l m h. h 0) (words-rise (suc k))) (λ l m i j.
+    let p = keyed-out k i in
+    let (e, d) = words-out (suc k) m j in
+    shorter-code l m (p .labels) d (omega (arith, p .short)))
+
 pub patterns-rise : (k : ℕ) → Sorted (λ l m. code l < code m) (patterns k)
 unfolding patterns
-patterns-rise zero = none
-patterns-rise (suc k) = sorted-append (patterns-rise k) (sorted-keep own? (sorted-imp (λ l m h. h 0) (words-rise (suc k)))) (λ l m i j.
-    let p = patterns-out k i in
-    let (e, d) = words-out (suc k) m (keep-out own? (words (suc k)) j .0) in
-    lt-of-lt-of-le (code-lt k 0 1 l (p .keyed .short) (p .keyed .labels) (omega arith)) (code-high k m e d))
+patterns-rise k = sorted-keep own? (keyed-rise k)

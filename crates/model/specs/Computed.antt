@@ -2,6 +2,7 @@
 pub mod Lists
 pub mod Edges
 pub mod Patterns
+pub mod Table
 pub mod Order
 pub mod Levels
 pub mod Entries

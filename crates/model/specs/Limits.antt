@@ -1,4 +1,4 @@
--- The numbers that document 01 fixes, each named once.
+-- The numbers that documents 01 and 02 fix, each named once.
 use Prim.Native.Nat.{ℕ, suc, _*_, _^_}
 
 -- places are 1 to 256, legs at most 1,024, colours 1 to 8, the longest pattern k 1 to 4
@@ -52,3 +52,10 @@ headBytes = 9
 
 abbrev pub tripleBytes : ℕ
 tripleBytes = 3
+
+-- document 02, One: the table has "each of the 4,680 patterns of one to four colours"
+abbrev pub tableLongest : ℕ
+tableLongest = 4
+
+abbrev pub tableSize : ℕ
+tableSize = 4680

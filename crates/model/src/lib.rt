@@ -1,4 +1,4 @@
-// The model: what document 01 says, as definitions (specs/) and laws (proofs/). The code is the numbers that document 01 fixes and the enums
+// The model: what documents 01 and 02 say, as definitions (specs/) and laws (proofs/). The code is the numbers that they fix and the enums
 // that replies are made of, and no function.
 
 // The numbers, each named once; specs/Limits.antt has them under the same names. A crate that wants one in another width takes it from here.
@@ -39,6 +39,11 @@ pub const LEAST_WORK: usize = 4096;
 pub const HEAD_BYTES: usize = 9;
 
 pub const TRIPLE_BYTES: usize = 3;
+
+// Document 02, One: the table has "each of the 4,680 patterns of one to four colours".
+pub const TABLE_LONGEST: usize = 4;
+
+pub const TABLE_SIZE: usize = 4680;
 
 // Why a call is turned down: a case for each number of document 01's table (specs/Replies.antt has the numbers).
 pub enum Refusal {

@@ -1,4 +1,4 @@
--- Patterns as they are computed: check 11, the minimum repeat, and the list of patterns of an index.
+-- Patterns as they are computed: check 11, the minimum repeat, and the lists of all patterns and of those of an index.
 use mathlib.Core.Path.{_≡_}
 use mathlib.Core.Bool.{Bool, _&&_, cond}
 use mathlib.Core.List.{List, [], _∷_, _++_, map}
@@ -35,11 +35,16 @@ pub record Folds (pattern : List ℕ) (size : ℕ) : Type 0 where
 unfoldable pub own? : List ℕ → Bool
 own? l = same? (minRepeat l) l
 
--- the words of m labels, and those patterns of 1 to k labels, by rising code
+-- the words of m labels, by rising code
 unfoldable pub words : ℕ → List (List ℕ)
 words zero = [] ∷ []
 words (suc m) = spread (λ c. map (λ w. c ∷ w) (words m)) (from 1 mostLabel)
 
+-- all patterns of 1 to k labels, "shorter patterns first and then by code"
+unfoldable pub keyedPatterns : ℕ → List (List ℕ)
+keyedPatterns zero = []
+keyedPatterns (suc k) = keyedPatterns k ++ words (suc k)
+
+-- and those of them that an index has entries for
 unfoldable pub patterns : ℕ → List (List ℕ)
-patterns zero = []
-patterns (suc k) = patterns k ++ keep own? (words (suc k))
+patterns k = keep own? (keyedPatterns k)
