@@ -2,7 +2,7 @@
 use mathlib.Core.Path.{_≡_, refl, sym, ap, _∙_}
 use mathlib.Core.Logic.{_⊎_, inl, inr, ⊎-elim, _≢_}
 use mathlib.Core.Bool.{Bool, true, false, not}
-use mathlib.Core.List.{List, [], _∷_, _++_, append-nil, List·Memᴰ, List·Memᴰ·head, List·Memᴰ·tail, List·Memᴰ·cases-cons, List·Memᴰ·not-nil, List·Memᴰ·append-cases, Memᴰ·append-left, Memᴰ·append-right, Memᴰ·of-map, map}
+use mathlib.Core.List.{List, [], _∷_, _++_, append-nil, append-assoc, List·Memᴰ, List·Memᴰ·head, List·Memᴰ·tail, List·Memᴰ·cases-cons, List·Memᴰ·not-nil, List·Memᴰ·append-cases, Memᴰ·append-left, Memᴰ·append-right, Memᴰ·of-map, map}
 use Prim.Native.Nat.{ℕ, zero, suc, _+_, _-_, _*_, _≤_, _<_}
 use native.Mathlib.Nat.{eq-or-lt-of-le, le-of-suc-le-suc, not-suc-le-zero, le-of-eq, suc-mul}
 use native.Mathlib.Decide.{ℕ-discrete}
@@ -75,6 +75,11 @@ pub spread-out : {A B : Type 0} (f : A → List B) (l : List A) {b : B} → List
 unfolding spread
 spread-out f [] m = absurd (List·Memᴰ·not-nil m)
 spread-out f (z ∷ l) m = ⊎-elim (λ h. (z, List·Memᴰ·head refl, h)) (λ k. let (x, a, b) = spread-out f l k in (x, List·Memᴰ·tail a, b)) (List·Memᴰ·append-cases (f z) m)
+
+pub spread-append : {A B : Type 0} (f : A → List B) (l m : List A) → spread f (l ++ m) ≡ spread f l ++ spread f m
+unfolding spread
+spread-append f [] m = refl
+spread-append {B = B} f (x ∷ l) m = ap (λ (n : List B). f x ++ n) (spread-append f l m) ∙ sym (append-assoc (f x) (spread f l) (spread f m))
 
 pub rising-from : (a m : ℕ) → Rising (from a m)
 unfolding from

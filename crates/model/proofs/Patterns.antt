@@ -156,7 +156,7 @@ unfolding words
 words-in [] d = List·Memᴰ·head refl
 words-in (c ∷ l) d = spread-in _ (from-in 1 8 c (d c (List·Memᴰ·head refl) .0) (omega (arith, d c (List·Memᴰ·head refl)))) (Memᴰ·map (λ w. c ∷ w) (words-in l (λ x m. d x (List·Memᴰ·tail m))))
 
-words-out : (m : ℕ) (l : List ℕ) → l ∈ˡ words m → (length l ≡ m) × Digits l
+pub words-out : (m : ℕ) (l : List ℕ) → l ∈ˡ words m → (length l ≡ m) × Digits l
 unfolding words
 words-out zero l h = rw (List·Memᴰ·eq-of-singleton h) (refl, λ c k. absurd (List·Memᴰ·not-nil k))
 words-out (suc m) l h =

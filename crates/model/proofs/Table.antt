@@ -1,9 +1,9 @@
 -- Laws of the table of document 02, One: each pattern stands once among all, at the place that its labels give as digits.
-use mathlib.Core.Path.{_≡_, refl, ap, ap₂, _∙_}
+use mathlib.Core.Path.{_≡_, refl, sym, ap, ap₂, _∙_}
 use mathlib.Core.Logic.{⊎-elim}
 use mathlib.Core.List.{List, [], _∷_, _++_, map, List·Memᴰ·head, List·Memᴰ·tail}
-use Prim.Native.Nat.{ℕ, zero, suc, _+_, _-_, _*_, _^_, _≤_, _<_}
-use native.Mathlib.Nat.{eq-or-lt-of-le, le-of-suc-le-suc, not-suc-le-zero, add-mul, mul-assoc, mul-le-mul-right, pow-succ'}
+use Prim.Native.Nat.{ℕ, zero, suc, _+_, _-_, _*_, _/_, _%_, _^_, _≤_, _<_}
+use native.Mathlib.Nat.{eq-or-lt-of-le, le-of-suc-le-suc, not-suc-le-zero, add-mul, mul-assoc, mul-comm, mul-le-mul-right, one-le-pow, pow-succ', div-add-mod', div-lt-iff-lt-mul, mod-lt}
 use native.Mathlib.Decide.{decLt}
 use native.Mathlib.Omega.{arith}
 use lib.ListN.{length, getD, length-append, length-map, List·getD-append}
@@ -13,8 +13,8 @@ use Rattle.model.specs.Lists.{from}
 use Rattle.model.specs.Patterns.{Keyed, code}
 use Rattle.model.specs.Computed.Patterns.{words, keyedPatterns}
 use Rattle.model.specs.Computed.Table.{shorter, ordinalFrom, place, StandsOnce}
-use Rattle.model.proofs.Lists.{length-from, length-spread, at-spread, at-map, at-from, at-sorted}
-use Rattle.model.proofs.Patterns.{Digits, keyed-rise}
+use Rattle.model.proofs.Lists.{length-from, length-spread, at-in, at-spread, at-map, at-from, at-sorted}
+use Rattle.model.proofs.Patterns.{Digits, words-out, keyed-rise}
 
 -- ---- the words of m labels
 
@@ -33,6 +33,34 @@ words-at m i j h k =
     (omega (arith, length-from 1 mostLabel)) k
     ∙ ap (λ (c : ℕ). getD (map (λ w. c ∷ w) (words m)) j []) (at-from 1 mostLabel i h ∙ omega arith)
     ∙ at-map [] [] (λ w. suc i ∷ w) (words m) j (omega (arith, length-words m))
+
+-- and their last labels count one by one
+pub words-last : (m i j : ℕ) → i < mostLabel ^ m → j < mostLabel → getD (words (suc m)) (i * mostLabel + j) [] ≡ getD (words m) i [] ++ (suc j ∷ [])
+unfolding words
+words-last zero i j h k =
+    let first : i ≡ 0 = omega arith in
+    let same : 0 * mostLabel + j ≡ j * mostLabel ^ 0 + 0 = omega arith in
+    rw (first, same) (words-at 0 j 0 k (omega arith))
+words-last (suc m) i j h k =
+    let unit = mostLabel ^ m in
+    let wide : mostLabel ^ suc m ≡ mostLabel * unit = pow-succ' mostLabel m in
+    let some : 0 < unit = one-le-pow m mostLabel (omega arith) in
+    let first = i / unit in
+    let rest = i % unit in
+    let parts : i ≡ first * unit + rest = sym (div-add-mod' i unit) in
+    let label : first < mostLabel = div-lt-iff-lt-mul some .1 (omega arith) in
+    let behind : rest < unit = mod-lt i some in
+    let scaled : first * (mostLabel * unit) ≡ mostLabel * (first * unit) = sym (mul-assoc first mostLabel unit) ∙ ap (λ (n : ℕ). n * unit) (mul-comm first mostLabel) ∙ mul-assoc mostLabel first unit in
+    let same : i * mostLabel + j ≡ first * mostLabel ^ suc m + (rest * mostLabel + j) = rw wide (omega (arith, parts, scaled)) in
+    rw same (words-at (suc m) first (rest * mostLabel + j) label (omega (arith, wide)))
+    ∙ ap (λ (w : List ℕ). suc first ∷ w) (words-last m rest j behind k)
+    ∙ sym (ap (λ (w : List ℕ). w ++ (suc j ∷ [])) (ap (λ (n : ℕ). getD (words (suc m)) n []) parts ∙ words-at m first rest label behind))
+
+-- each is a pattern
+pub word-keyed : (m i : ℕ) → 1 ≤ m → i < mostLabel ^ m → Keyed m (getD (words m) i [])
+word-keyed m i h k =
+    let (long, labels) = words-out m (getD (words m) i []) (at-in [] (words m) i (omega (arith, length-words m))) in
+    record { long = omega arith; short = omega arith; labels = labels }
 
 -- ---- the labels as digits
 

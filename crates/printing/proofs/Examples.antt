@@ -3,7 +3,7 @@ use mathlib.Core.Path.{_≡_, refl}
 use mathlib.Core.List.{List, [], _∷_, _++_}
 use Prim.Native.Nat.{ℕ}
 use Rattle.model.specs.Computed.Lists.{spread}
-use Rattle.printing.specs.Lines.{numeral, sideLine, entryLine, headerLine, refusedLine, listing}
+use Rattle.printing.specs.Lines.{numeral, sideLine, entryLine, headerLine, numberLine, refusedLine, listing}
 
 -- "Output, whole", line by line
 abbrev pub header : List ℕ
@@ -31,5 +31,5 @@ listing-A = refl
 
 -- "as `refused 14`"
 pub refused-14 : refusedLine 14 ≡ 114 ∷ 101 ∷ 102 ∷ 117 ∷ 115 ∷ 101 ∷ 100 ∷ 32 ∷ 49 ∷ 52 ∷ 10 ∷ []
-unfolding numeral refusedLine
+unfolding numeral numberLine refusedLine
 refused-14 = refl

@@ -12,15 +12,14 @@ use lib.Seq.{length-take-le, take-length, take-all, take-at, drop-at, drop-drop,
 use Rattle.model.specs.Limits.{mostLongest, digitUnit, sideUnit}
 use Rattle.model.specs.Computed.Lists.{spread}
 use Rattle.model.specs.Computed.Query.{ownerOf, hubOf, codeOf}
-use Rattle.model.proofs.Lists.{part-all, part-last}
+use Rattle.model.proofs.Lists.{spread-append, part-all, part-last}
 use Rattle.printing.specs.Puts.{Puts}
-use Rattle.printing.specs.Lines.{numeral, number, labels, space, newline, outWord, inWord, sideLine, entryLine, placesWord, longestWord, legsWord, entriesWord, headerLine, refusedWord, refusedLine, listing}
+use Rattle.printing.specs.Lines.{numeral, number, labels, space, newline, outWord, inWord, sideLine, entryLine, placesWord, longestWord, legsWord, entriesWord, headerLine, numberLine, refusedWord, refusedLine, listing}
 
 -- what is spread of one element more
 spread-snoc : (f : ℕ → List ℕ) (l : List ℕ) (x : ℕ) → spread f (l ++ (x ∷ [])) ≡ spread f l ++ f x
 unfolding spread
-spread-snoc f [] x = append-nil (f x)
-spread-snoc f (y ∷ l) x = ap (λ (m : List ℕ). f y ++ m) (spread-snoc f l x) ∙ sym (append-assoc (f y) (spread f l) (f x))
+spread-snoc f l x = spread-append f l (x ∷ []) ∙ ap (λ (m : List ℕ). spread f l ++ m) (append-nil (f x))
 
 pub puts-none : (out : List ℕ) (at : ℕ) → Puts out at [] out at
 puts-none out at = record { end = omega arith; bytes = sym (take-append-drop at out) }
@@ -115,9 +114,16 @@ pub side-in : (e : ℕ) → sideUnit ≤ e → sideLine e ≡ inWord ++ number (
 unfolding sideLine
 side-in e h = rw (le-ltb e sideUnit h)
 
-pub refused-is : (n : ℕ) → refusedLine n ≡ (refusedWord ++ number n) ++ newline
+pub number-is : (n : ℕ) → numberLine n ≡ number n ++ newline
+unfolding numberLine
+number-is n = refl
+
+pub number-length : (n : ℕ) → length (numberLine n) ≤ 11
+number-length n = rw (number-is n) (omega (arith, length-append (number n) newline, numeral-length 10 10 n))
+
+pub refused-is : (n : ℕ) → refusedLine n ≡ refusedWord ++ numberLine n
 unfolding refusedLine
-refused-is n = simp append-assoc
+refused-is n = refl
 
 pub entry-is : (e : ℕ) → entryLine e ≡ (((sideLine e ++ (space ++ number (hubOf e))) ++ space) ++ labels (codeOf e)) ++ newline
 unfolding entryLine
@@ -154,13 +160,14 @@ pub listing-is : (v k m : ℕ) (l : List ℕ) → listing v k m l ≡ headerLine
 unfolding listing
 listing-is v k m l = refl
 
--- the lines of no entry, of one more, and of all
-pub lines-none : (l : List ℕ) → spread entryLine (take 0 l) ≡ []
-unfolding spread
-lines-none l = refl
+-- the lines of no number, of one more, and of all
+module _ (line : ℕ → List ℕ) (l : List ℕ) where
+  pub lines-none : spread line (take 0 l) ≡ []
+  unfolding spread
+  lines-none = refl
 
-pub lines-all : (l : List ℕ) (i : ℕ) → length l ≤ i → spread entryLine (take i l) ≡ spread entryLine l
-lines-all l i h = ap (spread entryLine) (take-all i l h)
+  pub lines-all : (i : ℕ) → length l ≤ i → spread line (take i l) ≡ spread line l
+  lines-all i h = ap (spread line) (take-all i l h)
 
-pub lines-more : (l : List ℕ) (i : ℕ) → i < length l → spread entryLine (take (i + 1) l) ≡ spread entryLine (take i l) ++ entryLine (getD l i 0)
-lines-more l i h = rw (add-one, take-suc l i 0 h) (spread-snoc entryLine (take i l) (getD l i 0))
+  pub lines-more : (i : ℕ) → i < length l → spread line (take (i + 1) l) ≡ spread line (take i l) ++ line (getD l i 0)
+  lines-more i h = rw (add-one, take-suc l i 0 h) (spread-snoc line (take i l) (getD l i 0))

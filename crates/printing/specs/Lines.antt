@@ -1,4 +1,4 @@
--- What the listing program prints (document 01, "The layout card"), as bytes.
+-- What the programs print, as bytes: the listing (document 01, "The layout card"), and lines of one number (document 02, One).
 use mathlib.Core.Bool.{cond}
 use mathlib.Core.List.{List, [], _∷_, _++_}
 use Prim.Native.Nat.{ℕ, zero, suc, _+_, _/_, _%_}
@@ -59,6 +59,10 @@ legsWord = 32 ∷ 108 ∷ 101 ∷ 103 ∷ 115 ∷ 32 ∷ []
 abbrev pub entriesWord : List ℕ
 entriesWord = 32 ∷ 101 ∷ 110 ∷ 116 ∷ 114 ∷ 105 ∷ 101 ∷ 115 ∷ 32 ∷ []
 
+-- a line with a number alone
+unfoldable pub numberLine : ℕ → List ℕ
+numberLine n = number n ++ newline
+
 -- "refused "
 abbrev pub refusedWord : List ℕ
 refusedWord = 114 ∷ 101 ∷ 102 ∷ 117 ∷ 115 ∷ 101 ∷ 100 ∷ 32 ∷ []
@@ -70,7 +74,7 @@ headerLine vertices longest edges entries =
 
 -- "A refused card prints one line, `refused` and its number"
 unfoldable pub refusedLine : ℕ → List ℕ
-refusedLine n = refusedWord ++ (number n ++ newline)
+refusedLine n = refusedWord ++ numberLine n
 
 -- "After the header comes one line for each entry in slot order": the whole output
 unfoldable pub listing : (vertices longest edges : ℕ) → List ℕ → List ℕ

@@ -1,4 +1,4 @@
-// The lines that the programs print, as bytes in lent memory: entries, the header, and a refusal. Each function writes from `at` on, leaves
+// The lines that the programs print, as bytes in lent memory: entries, the header, a refusal, and numbers. Each function writes from `at` on, leaves
 // all other bytes as they were, and returns where its text ends.
 use model::HUB_UNIT;
 use model::MOST_LONGEST;
@@ -16,6 +16,7 @@ ghost use Rattle.printing.specs.Lines.{
   sideLine,
   entryLine,
   headerLine,
+  numberLine,
   refusedLine,
   listing,
 };
@@ -129,13 +130,22 @@ pub fn put_header(
     put(out, count, b'\n')
 }
 
+// A line with a number alone.
+pub fn put_number(out: &mut [u8], at: usize, n: u32) -> usize
+    requires { ⌜ at + 11 ≤ length (now out) ⌝ }
+    ensures { λ r. ⌜ Puts (now (out .entry)) at (numberLine n) (now (out .exit)) r ⌝ }
+{
+    let next = put_digits(out, at, n, 10, 10);
+    put(out, next, b'\n')
+}
+
 // The line of a refused card.
 pub fn put_refused(out: &mut [u8], at: usize, refusal: u32) -> usize
     requires { ⌜ at + 19 ≤ length (now out) ⌝ }
     ensures { λ r. ⌜ Puts (now (out .entry)) at (refusedLine refusal) (now (out .exit)) r ⌝ }
 {
-    let next = put_field(out, at, b"refused ", refusal);
-    put(out, next, b'\n')
+    let next = put_text(out, at, b"refused ");
+    put_number(out, next, refusal)
 }
 
 // The whole listing of a card: its header, and a line for each entry.

@@ -21,7 +21,7 @@ abbrev μ-loop : tie.MeasureT-loop
 loop-holds : tie.Need-loop-holds Inv-loop μ-loop
 loop-holds c =
     let start = c .before .before in
-    (omega arith, (refl, (omega arith, rw (lines-none (start .args .entries .now)) (puts-none _ _))))
+    (omega arith, (refl, (omega arith, rw (lines-none entryLine (start .args .entries .now)) (puts-none _ _))))
 
 put-entry-requires : tie.Need-put-entry-requires Inv-loop μ-loop
 put-entry-requires c κs =
@@ -41,7 +41,7 @@ loop-again c =
         put .put-entry .kept .0 ∙ loop .inv .1 .0,
         (
           omega (arith, put .put-entry .ensures .end, entry-length (getD entries (loop .i) 0), loop .inv .1 .1 .0),
-          rw (lines-more entries (loop .i) (turn .loop-test .taken)) (puts-then inside (loop .inv .1 .1 .1) (put .put-entry .ensures)),
+          rw (lines-more entryLine entries (loop .i) (turn .loop-test .taken)) (puts-then inside (loop .inv .1 .1 .1) (put .put-entry .ensures)),
         ),
       ),
     )
@@ -50,7 +50,7 @@ same-length : tie.Need-same-length Inv-loop μ-loop
 same-length c = c .before .loop .inv .1 .0
 
 returns : tie.Need-returns Inv-loop μ-loop
-returns c = rw (sym (lines-all (c .before .before .before .before .args .entries .now) (c .before .loop .i) (c .loop-test .left))) (c .before .loop .inv .1 .1 .1)
+returns c = rw (sym (lines-all entryLine (c .before .before .before .before .args .entries .now) (c .before .loop .i) (c .loop-test .left))) (c .before .loop .inv .1 .1 .1)
 
 pub put-entries-spec : {M : Type 1} → statement M
 put-entries-spec =
