@@ -10,7 +10,7 @@ use lib.Seq.{take-append-seam}
 use Rattle.model.specs.Limits.{hubUnit, mostLongest, mostLabel}
 use Rattle.model.specs.Lists.{_∈_, from, Sorted, none, next}
 use Rattle.model.specs.Patterns.{times, Keyed, MinRepeat, Pattern, codeFrom, code}
-use Rattle.model.specs.Computed.Patterns.{keyed?, repeatFrom, minRepeat, foldedLength, own?, words, keyedPatterns, patterns}
+use Rattle.model.specs.Computed.Patterns.{keyed?, repeatFrom, minRepeat, foldedLength, Folds, own?, words, keyedPatterns, patterns}
 use Rattle.model.proofs.Tests.{Tests, test-map, test-and, test-le, test-all, test-same, test-true, by-test}
 use Rattle.model.proofs.Lists.{keep-in, keep-out, from-in, from-out, rising-from, spread-in, spread-out, sorted-keep, sorted-imp, sorted-append, sorted-map, sorted-spread}
 
@@ -130,6 +130,10 @@ folded-length l p = rw (test-true (test-keyed mostLongest l) p)
 pub folded-take : (l : List ℕ) → Keyed mostLongest l → take (foldedLength l) l ≡ minRepeat l
 folded-take l p = ap (λ (n : ℕ). take n l) (folded-length l p) ∙ repeat-front l (p .long)
 
+-- that length is all that the folding promises
+pub folds : {l : List ℕ} {n : ℕ} → n ≡ foldedLength l → Folds l n
+folds {l} e = record { is = e; labels = λ p. rw e (folded-take l p) }
+
 take-in : (n : ℕ) {x : ℕ} (l : List ℕ) → x ∈ take n l → x ∈ l
 take-in n {x} l m = rw (take-append-drop n l) at (Memᴰ·append-left (drop n l) m)
 
@@ -143,6 +147,11 @@ folded {k} {l} p = record {
   };
   own = repeat-own l (p .long);
 }
+
+-- so what is folded has at most four labels
+pub folded-short : (l : List ℕ) → foldedLength l ≤ mostLongest
+unfolding foldedLength
+folded-short l = by-test (λ (n : ℕ). n ≤ mostLongest) (test-keyed mostLongest l) (λ k. folded k .keyed .short) (λ _. omega arith)
 
 pub test-own : (l : List ℕ) → 1 ≤ length l → Tests (own? l) (MinRepeat l l)
 unfolding own?

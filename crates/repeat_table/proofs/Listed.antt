@@ -9,7 +9,7 @@ use Rattle.model.specs.Computed.Lists.{spread}
 use Rattle.model.specs.Computed.Patterns.{minRepeat, foldedLength, words, keyedPatterns}
 use Rattle.model.specs.Computed.Table.{repeatLengths}
 use Rattle.model.proofs.Lists.{at-map, spread-append}
-use Rattle.model.proofs.Patterns.{keyed-up, repeat-short, folded-length}
+use Rattle.model.proofs.Patterns.{keyed-up, folded-length}
 use Rattle.model.proofs.Table.{length-words, word-keyed}
 use Rattle.printing.specs.Puts.{Puts}
 use Rattle.printing.specs.Lines.{numberLine}
@@ -20,20 +20,14 @@ pub length-lengths : (n : ℕ) → length (lengths n) ≡ mostLabel ^ n
 unfolding lengths
 length-lengths n = length-map (words n) (λ l. length (minRepeat l)) ∙ length-words n
 
--- what is folded of a word is its place's length, which is small
-pub record FoldedAt (n number : ℕ) (word : List ℕ) : Type 0 where
-  pub is : foldedLength word ≡ getD (lengths n) number 0
-  pub small : foldedLength word ≤ tableLongest
-
-pub folded-at : (n number : ℕ) (word : List ℕ) → 1 ≤ n → n ≤ tableLongest → number < mostLabel ^ n → word ≡ getD (words n) number [] → FoldedAt n number word
+-- what is folded of a word is the length at its place
+pub folded-at : (n number : ℕ) (word : List ℕ) → 1 ≤ n → n ≤ tableLongest → number < mostLabel ^ n → word ≡ getD (words n) number []
+    → foldedLength word ≡ getD (lengths n) number 0
 unfolding lengths
 folded-at n number word some few inside is =
-    let keyed = rw (sym is) at (word-keyed n number some inside) in
-    let folded = folded-length word (keyed-up few keyed) in
-    record {
-      is = folded ∙ ap (λ (l : List ℕ). length (minRepeat l)) is ∙ sym (at-map [] 0 (λ l. length (minRepeat l)) (words n) number (omega (arith, length-words n)));
-      small = omega (arith, folded, repeat-short word (keyed .long), keyed .short);
-    }
+    folded-length word (keyed-up few (rw (sym is) at (word-keyed n number some inside)))
+    ∙ ap (λ (l : List ℕ). length (minRepeat l)) is
+    ∙ sym (at-map [] 0 (λ l. length (minRepeat l)) (words n) number (omega (arith, length-words n)))
 
 -- the lines of the first i lengths are put
 pub record LinesPut (out₀ word₀ : List ℕ) (at i : ℕ) (out word : List ℕ) (next : ℕ) : Type 0 where

@@ -5,13 +5,10 @@ use mathlib.Core.List.{List, [], _∷_}
 use Prim.Native.Nat.{ℕ, zero, suc, _≤_}
 use native.Mathlib.Omega.{arith}
 use lib.ListN.{length, set}
-use Rattle.model.specs.Limits.{mostLongest}
 use Rattle.model.specs.Replies.{numberOf, answerOf}
-use Rattle.model.specs.Computed.Patterns.{foldedLength}
 use Rattle.model.specs.declared.Refusal.{Refusal}
 use Rattle.model.specs.declared.Answer.the-variants.{Accepted, Refused}
 use Rattle.model.proofs.Tests.{test-true, test-false, test-eq, by-test}
-use Rattle.model.proofs.Patterns.{test-keyed, folded}
 use Rattle.model.proofs.Replies.{number-some}
 use Rattle.calls.specs.Call.{Memory, Outcome, Meets, Returned}
 use Rattle.store.specs.Store.{returned}
@@ -96,8 +93,3 @@ module _ {words : List ℕ} {m : Memory} {c : Outcome Returned} where
           meets = rw (two words e) (called (λ (x : Returned). x .answer) l (b .number));
           words-after = rw (two words e, zero-is) (b .words-after ∙ ap (λ (k : Returned). k .header .vertices ∷ k .header .longest ∷ []) (l .reply-is));
         }
-
--- a minimum repeat has at most four labels
-pub folded-short : (l : List ℕ) → foldedLength l ≤ mostLongest
-unfolding foldedLength
-folded-short l = by-test (λ (n : ℕ). n ≤ mostLongest) (test-keyed mostLongest l) (λ k. folded k .keyed .short) (λ _. omega arith)

@@ -239,11 +239,20 @@ pub extern "C" fn rlc_write_card(words: &[u32], edges: &[u32], output: &mut [u8]
     }
 }
 
-// The length of a pattern's minimum repeat, which is the pattern's first labels.
+// The length of a pattern's minimum repeat, which is the pattern's first labels, by the table.
 #[no_mangle]
 pub extern "C" fn rlc_minimum_repeat(pattern: &[u8]) -> u32
     ensures { λ r. ⌜ Folds (now (pattern .entry)) r ⌝ }
 {
     let folded = store::minimum_repeat(pattern);
+    folded.length as u32
+}
+
+// The same, computed.
+#[no_mangle]
+pub extern "C" fn rlc_minimum_repeat_computed(pattern: &[u8]) -> u32
+    ensures { λ r. ⌜ Folds (now (pattern .entry)) r ⌝ }
+{
+    let folded = store::minimum_repeat_computed(pattern);
     folded.length as u32
 }

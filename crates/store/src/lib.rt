@@ -1,4 +1,4 @@
-// The store as firmware sees it: every call of document 01, for all inputs. Opening, insertion (laying) and removal (lifting) are operations
+// The store as firmware sees it: every call of documents 01 and 02, for all inputs. Opening, insertion (laying) and removal (lifting) are operations
 // of the header (record): each takes it and hands it back with the answer.
 use checks::Standing;
 use model::Answer;
@@ -204,8 +204,15 @@ pub fn level_search(
     )
 }
 
-// The length of a pattern's minimum repeat, which is the pattern's first labels.
+// The length of a pattern's minimum repeat, which is the pattern's first labels, looked up in the table (document 02, One).
 pub fn minimum_repeat(pattern: &[u8]) -> Folded
+    ensures { λ r. ⌜ Folds (now (pattern .entry)) (r .length) ⌝ }
+{
+    lookup::minimum_repeat(pattern)
+}
+
+// The same, by the recursion that tries one length after another.
+pub fn minimum_repeat_computed(pattern: &[u8]) -> Folded
     ensures { λ r. ⌜ Folds (now (pattern .entry)) (r .length) ⌝ }
 {
     patterns::minimum_repeat(pattern)

@@ -13,7 +13,7 @@ use Rattle.model.specs.Patterns.{times, codeFrom}
 use Rattle.model.specs.Order.{weight, rank, Names}
 use Rattle.model.specs.Computed.Lists.{all?, spread}
 use Rattle.model.specs.Computed.Edges.{edge?, zeros?, risingEdges?, edgeMemory?}
-use Rattle.model.specs.Computed.Patterns.{repeatFrom, minRepeat, own?, words, patterns}
+use Rattle.model.specs.Computed.Patterns.{repeatFrom, minRepeat, own?, words, keyedPatterns, patterns}
 use Rattle.model.specs.Computed.Order.{insertByWeight, byWeight, counted}
 use Rattle.model.specs.Computed.Levels.{states, leads?, led?, grow, stage, replyFrom, levelReply, runs?}
 use Rattle.model.specs.Computed.Entries.{stop?, allStops, earliest?, out?, in?, ofHub, ofOwner, ofSide, entries}
@@ -62,7 +62,7 @@ buildable room = record {
 }
 
 pub table-II : entries graph order ≡ tableII
-unfolding tableII any? all? keep from spread times repeatFrom minRepeat own? codeFrom words patterns rank states leads? led? grow stage replyFrom levelReply runs? stop? allStops earliest? out? in? ofHub ofOwner ofSide entries
+unfolding tableII any? all? keep from spread times repeatFrom minRepeat own? codeFrom words keyedPatterns patterns rank states leads? led? grow stage replyFrom levelReply runs? stop? allStops earliest? out? in? ofHub ofOwner ofSide entries
 table-II = same-out (entries graph order) tableII tt
 
 pub table-entries : length tableII ≡ 26

@@ -6,7 +6,7 @@ use Rattle.model.specs.Patterns.{times, codeFrom}
 use Rattle.model.specs.Order.{weight, rank}
 use Rattle.model.specs.Computed.Lists.{all?, spread}
 use Rattle.model.specs.Computed.Edges.{edge?, zeros?, risingEdges?, edgeMemory?, insertEdge}
-use Rattle.model.specs.Computed.Patterns.{keyed?, repeatFrom, minRepeat, own?, words, patterns}
+use Rattle.model.specs.Computed.Patterns.{keyed?, repeatFrom, minRepeat, own?, words, keyedPatterns, patterns}
 use Rattle.model.specs.Computed.Order.{insertByWeight, byWeight, counted}
 use Rattle.model.specs.Computed.Levels.{states, leads?, led?, grow, stage, replyFrom, levelReply, runs?}
 use Rattle.model.specs.Computed.Entries.{stop?, allStops, earliest?, out?, in?, ofHub, ofOwner, ofSide, entries, determined}
@@ -32,7 +32,7 @@ unfolding openingNumber
 accounted = demand3 garbage _ _ by-opening refl
 
 pub example : Example bytesA
-unfolding A slotsA cardA run openCall openRefusal insertCall insertRefusal any? all? keep from spread edge? zeros? risingEdges? edgeMemory? standing insertEdge times keyed? repeatFrom minRepeat own? codeFrom words patterns weight insertByWeight byWeight counted rank states leads? led? grow stage replyFrom levelReply runs? stop? allStops earliest? out? in? ofHub ofOwner ofSide entries determined firstRefusal settle edgesOf risingTriples? cardEdges? readRefusal readCall
+unfolding A slotsA cardA run openCall openRefusal insertCall insertRefusal any? all? keep from spread edge? zeros? risingEdges? edgeMemory? standing insertEdge times keyed? repeatFrom minRepeat own? codeFrom words keyedPatterns patterns weight insertByWeight byWeight counted rank states leads? led? grow stage replyFrom levelReply runs? stop? allStops earliest? out? in? ofHub ofOwner ofSide entries determined firstRefusal settle edgesOf risingTriples? cardEdges? readRefusal readCall
 example =
     record {
       replies = refl;

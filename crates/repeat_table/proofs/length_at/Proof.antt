@@ -2,19 +2,21 @@
 use mathlib.Core.Path.{_∙_}
 use native.Mathlib.Omega.{arith}
 use borrow.Author.Needs.{needs}
-use lib.ListN.{length}
-use Rattle.repeat_table.proofs.Listed.{FoldedAt, folded-at}
+use Rattle.model.proofs.Patterns.{folded-short}
+use Rattle.repeat_table.proofs.Listed.{folded-at}
 use Rattle.repeat_table.proofs.length_at.Statement.{statement}
 use Rattle.repeat_table.proofs.length_at.Tie as tie
 
-spelled : (c : tie.After-spell) → FoldedAt (length (c .before .before .before .args .word .now)) (c .before .before .before .args .number) (c .spell .last .0)
-spelled c = let p = c .before .before .before .pre in folded-at _ _ _ (p .0 .0) (p .0 .1) (p .1) (c .spell .ensures)
+abbrev spelled : tie.After-struct-known → tie.After-spell
+spelled c = c .before .before .before .before .before
 
 cast-result : tie.Need-cast-result
-cast-result c = omega (arith, c .before .minimum-repeat .ensures, spelled (c .before .before .before .before .before) .small)
+cast-result c = omega (arith, c .before .minimum-repeat .ensures, folded-short (spelled c .spell .last .0))
 
 returns : tie.Need-returns
-returns c = c .before .minimum-repeat .ensures ∙ spelled (c .before .before .before .before .before) .is
+returns c =
+    let (range, inside) = spelled c .before .before .before .pre in
+    c .before .minimum-repeat .ensures ∙ folded-at _ _ _ (range .0) (range .1) inside (spelled c .spell .ensures)
 
 pub length-at-spec : {M : Type 1} → statement M
 length-at-spec =
