@@ -13,7 +13,6 @@ pub fn run(t: &mut Tester) {
     t.part = "bounds";
     headers(t);
     small_memories(t);
-    all_patterns(t);
     cards(t);
     largest(t);
     longest_search(t);
@@ -59,34 +58,6 @@ fn small_memories(t: &mut Tester) {
                 t.search(record, &check, &mut memory);
             }
         }
-    }
-}
-
-/// The minimum repeat of every pattern, and of what is none.
-fn all_patterns(t: &mut Tester) {
-    let labels: Vec<u8> = (1..=8).collect();
-    let mut last: Vec<Vec<u8>> = vec![vec![]];
-    t.minimum_repeat(&[]);
-    for _ in 0..5 {
-        last = last.iter().flat_map(|p| labels.iter().map(move |l| [&p[..], &[*l]].concat())).collect();
-        for pattern in &last {
-            t.minimum_repeat(pattern);
-        }
-        if last[0].len() == 4 {
-            last.truncate(200);
-        }
-    }
-    for length in 1..=4 {
-        for i in 0..length {
-            for label in [0, 9, 10, 15, 16, 17, 128, 255] {
-                let mut pattern = vec![1; length];
-                pattern[i] = label;
-                t.minimum_repeat(&pattern);
-            }
-        }
-    }
-    for length in [5, 6, 8, 64, 256, 257, 260, 1000] {
-        t.minimum_repeat(&vec![1; length]);
     }
 }
 

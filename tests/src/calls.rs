@@ -43,6 +43,15 @@ fn bad_pattern(pattern: &[u8], longest: u32) -> bool {
     pattern.is_empty() || pattern.len() > longest as usize || !pattern.iter().all(|label| is_label(*label as u32))
 }
 
+/// The length of the minimum repeat of 1 to 4 labels 1 to 8; 0 of anything else.
+pub fn minimum_repeat_length(pattern: &[u8]) -> u32 {
+    if bad_pattern(pattern, 4) {
+        0
+    } else {
+        minimum_repeat(pattern).len() as u32
+    }
+}
+
 pub fn folded(pattern: &[u8]) -> Vec<u32> {
     minimum_repeat(pattern).iter().map(|label| *label as u32).collect()
 }

@@ -5,7 +5,7 @@ use crate::calls::{self, Check, Memory, Record};
 use crate::counts::{Call, Counts};
 use crate::lent::Lent;
 use crate::library::*;
-use crate::reference::{minimum_repeat, Edge, Found};
+use crate::reference::{Edge, Found};
 use crate::rng::Rng;
 use std::fmt::Debug;
 
@@ -198,15 +198,20 @@ impl Tester {
         expected
     }
 
+    /// The length of the minimum repeat, by the table and computed.
     pub fn minimum_repeat(&mut self, pattern: &[u8]) -> u32 {
-        self.calls += 1;
-        let right = (1..=4).contains(&pattern.len()) && pattern.iter().all(|label| (1..=8).contains(label));
-        let expected = if right { minimum_repeat(pattern).len() as u32 } else { 0 };
-        let mut lent = self.lend(pattern, |n| n as u8);
-        let got = unsafe { rlc_minimum_repeat(lent.pointer(), lent.len()) };
-        let call = || format!("minimum_repeat {pattern:?}");
-        self.same_reply(&call, got, expected);
-        self.same(&call, "pattern", &lent, pattern);
+        let expected = calls::minimum_repeat_length(pattern);
+        type Fold = unsafe extern "C" fn(*const u8, usize) -> u32;
+        let both: [(&str, Fold); 2] =
+            [("minimum_repeat", rlc_minimum_repeat), ("minimum_repeat_computed", rlc_minimum_repeat_computed)];
+        for (name, function) in both {
+            self.calls += 1;
+            let mut lent = self.lend(pattern, |n| n as u8);
+            let got = unsafe { function(lent.pointer(), lent.len()) };
+            let call = || format!("{name} {pattern:?}");
+            self.same_reply(&call, got, expected);
+            self.same(&call, "pattern", &lent, pattern);
+        }
         expected
     }
 }

@@ -10,4 +10,5 @@ extern "C" {
     pub fn rlc_read_card(record: *mut u32, record_n: usize, card: *const u8, card_n: usize, edges: *mut u32, edges_n: usize, index: *mut u64, index_n: usize, work: *mut u64, work_n: usize) -> u32;
     pub fn rlc_write_card(record: *const u32, record_n: usize, edges: *const u32, edges_n: usize, output: *mut u8, output_n: usize) -> u64;
     pub fn rlc_minimum_repeat(pattern: *const u8, pattern_n: usize) -> u32;
+    pub fn rlc_minimum_repeat_computed(pattern: *const u8, pattern_n: usize) -> u32;
 }

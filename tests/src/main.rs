@@ -1,5 +1,5 @@
-//! Compares the library, through its C interface, with a second implementation written from document 01's
-//! definitions.
+//! Compares the library, through its C interface, with a second implementation written from the definitions of
+//! documents 01 and 02.
 //!
 //! rlc_tests [SEED [ROUNDS [FIRST]]]: the fixed parts, then rounds FIRST, FIRST + 1, ... of random ones. A
 //! round's inputs depend on the seed and its number only. Status 0 and a summary if all agrees; 1 at the
@@ -19,6 +19,7 @@ mod listing;
 mod lists;
 mod pairs;
 mod reference;
+mod repeats;
 mod rng;
 mod selfcheck;
 mod trials;
@@ -30,8 +31,9 @@ use std::time::Instant;
 const SEED: u64 = 1;
 const ROUNDS: u64 = 600;
 
-/// The listing program, as `rt check listing` leaves it in the repository.
-const PROGRAM: &str = "target/bin/listing";
+/// The programs, as `rt check` leaves them in the repository.
+const LISTING: &str = "target/bin/listing";
+const REPEAT_TABLE: &str = "target/bin/repeat_table";
 
 fn main() {
     let arguments: Vec<u64> = std::env::args().skip(1).map(|word| word.parse().expect("a number")).collect();
@@ -45,7 +47,9 @@ fn main() {
     println!("trials: {} calls, {:.1} s", t.calls, begin.elapsed().as_secs_f64());
     bounds::run(&mut t);
     println!("bounds: {} calls, {:.1} s", t.calls, begin.elapsed().as_secs_f64());
-    let listings = listing::run(&mut t, PROGRAM);
+    repeats::run(&mut t, REPEAT_TABLE);
+    println!("repeats: {} calls, {:.1} s", t.calls, begin.elapsed().as_secs_f64());
+    let listings = listing::run(&mut t, LISTING);
     println!("listing: {listings} inputs, {:.1} s", begin.elapsed().as_secs_f64());
     for round in first..first + rounds {
         t.round = round;

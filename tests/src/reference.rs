@@ -66,6 +66,13 @@ pub fn patterns(labels: &[u32], longest: u32) -> Vec<Vec<u32>> {
     all
 }
 
+/// Document 02, One: the patterns of one to four labels, shorter patterns first and then by code.
+pub fn table_patterns() -> Vec<Vec<u32>> {
+    let mut patterns: Vec<Vec<u32>> = (1..=0x8888).filter_map(pattern_of_code).filter(|l| l.len() <= 4).collect();
+    patterns.sort_by_key(|pattern| pattern.len());
+    patterns
+}
+
 /// The vertices with an edge, by (edges out + 1) × (edges in + 1), largest first, lower vertex first among equals.
 /// (A vertex without an edge is no stop of any walk.)
 pub fn access_order(edges: &[Edge]) -> Vec<u32> {

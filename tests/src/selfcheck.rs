@@ -23,6 +23,10 @@ pub fn run() {
 
     assert_eq!(minimum_repeat(&[1, 2, 1, 2]), [1, 2]);
     assert_eq!(minimum_repeat(&[1, 2, 1]), [1, 2, 1]);
+    // "each of the 4,680 patterns of one to four colours"
+    let table = table_patterns();
+    assert_eq!(table.len(), 4680);
+    assert!(table[7] == [8] && table[8] == [1, 1] && table[71] == [8, 8] && table[72] == [1, 1, 1]);
     // 8 + 56 + 504 + 4,032 patterns are their own minimum repeat.
     assert_eq!(patterns(&[1, 2, 3, 4, 5, 6, 7, 8], 4).len(), 4600);
 }

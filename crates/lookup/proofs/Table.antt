@@ -1,7 +1,6 @@
 -- The table's laws: one computed test over the whole table, and the lemma that carries it to each entry.
 use mathlib.Core.Path.{_≡_, refl, sym, ap, _∙_}
 use mathlib.Core.Logic.{inl, inr}
-use mathlib.Core.Bool.{Bool, true, false}
 use mathlib.Core.List.{List, [], map}
 use Prim.Native.Nat.{ℕ, _+_, _-_, _≤_, _<_}
 use native.Mathlib.Decide.{decLt}
@@ -11,7 +10,7 @@ use lib.ListN.{length, take, getD}
 use lib.Seq.{getD-take}
 use Rattle.model.specs.Limits.{tableLongest, tableSize}
 use Rattle.model.specs.Lists.{from, Sorted}
-use Rattle.model.specs.Patterns.{Keyed, MinRepeat, code}
+use Rattle.model.specs.Patterns.{Keyed, code}
 use Rattle.model.specs.Computed.Lists.{spread}
 use Rattle.model.specs.Computed.Patterns.{keyed?, minRepeat, foldedLength, words, keyedPatterns}
 use Rattle.model.specs.Computed.Table.{repeatLengths, shorter, ordinalFrom, place}
@@ -20,7 +19,7 @@ use Rattle.model.proofs.Lists.{length-from, at-map, at-from, getD-map, sorted-a
 use Rattle.model.proofs.Patterns.{test-keyed, min-repeat-unique, folded-length, keyed-in, keyed-out, keyed-rise, shorter-code}
 use Rattle.model.proofs.Table.{stands}
 use Rattle.patterns.proofs.Lengths.{folded-not}
-use Rattle.lookup.specs.Table.{startsRight?, tested?, lookedUp, Precedes, TableMeaning}
+use Rattle.lookup.specs.Table.{testedEntries, tested?, startsRight?, lookedUp, Precedes, TableMeaning}
 
 -- there are 4,680 patterns
 pub many : length (keyedPatterns tableLongest) ≡ tableSize
@@ -31,9 +30,10 @@ many = refl
 pub entry-is : (table : List ℕ) → T (tested? table) → (i : ℕ) → i < tableSize → getD table i 0 ≡ getD repeatLengths i 0
 unfolding tested?
 entry-is table t i h =
-    sym (getD-take tableSize table i 0 h)
-    ∙ ap (λ (l : List ℕ). getD l i 0) (same-out (take tableSize table) (take tableSize repeatLengths) t)
-    ∙ getD-take tableSize repeatLengths i 0 h
+    let looked : i < testedEntries = omega arith in
+    sym (getD-take testedEntries table i 0 looked)
+    ∙ ap (λ (l : List ℕ). getD l i 0) (same-out (take testedEntries table) (take testedEntries repeatLengths) t)
+    ∙ getD-take testedEntries repeatLengths i 0 looked
 
 -- where the patterns of n labels start
 pub start-is : (starts : List ℕ) → T (startsRight? starts) → (n : ℕ) → 1 ≤ n → n ≤ tableLongest → getD starts (n - 1) 0 ≡ shorter n
@@ -45,22 +45,22 @@ start-is starts t n h k =
     ∙ getD-map shorter (from 1 tableLongest) (n - 1) inside
     ∙ ap shorter (at-from 1 tableLongest (n - 1) (omega arith) ∙ number)
 
--- and the definition's entry at a pattern's place
-pub place-inside : (l : List ℕ) → Keyed tableLongest l → place l < tableSize
-place-inside l p = omega (arith, stands tableLongest l p .inside, many)
-
--- a sum of the shorter ones, and the labels as digits
+-- the place of a pattern: a sum of the shorter ones, and the labels as digits
 pub place-of : (l : List ℕ) → place l ≡ shorter (length l) + ordinalFrom 0 l
 unfolding place
 place-of l = refl
 
+pub place-inside : (l : List ℕ) → Keyed tableLongest l → place l < tableSize
+place-inside l p = omega (arith, stands tableLongest l p .inside, many)
+
+-- the definition's entry there is the length of the minimum repeat
 pub defined-there : (l : List ℕ) → Keyed tableLongest l → getD repeatLengths (place l) 0 ≡ length (minRepeat l)
 unfolding repeatLengths
 defined-there l p =
     let s = stands tableLongest l p in
     at-map [] 0 (λ l. length (minRepeat l)) (keyedPatterns tableLongest) (place l) (s .inside) ∙ ap (λ (l : List ℕ). length (minRepeat l)) (s .there)
 
--- so a table that passes the test has the length of the minimum repeat there, which is what the recursion finds
+-- which is what the recursion finds
 pub found : (l : List ℕ) → Keyed tableLongest l → getD repeatLengths (place l) 0 ≡ foldedLength l
 found l p = defined-there l p ∙ sym (folded-length l p)
 

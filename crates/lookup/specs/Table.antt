@@ -13,9 +13,12 @@ use Rattle.model.specs.Computed.Lists.{same?}
 use Rattle.model.specs.Computed.Patterns.{keyed?, foldedLength, keyedPatterns}
 use Rattle.model.specs.Computed.Table.{repeatLengths, shorter, place, StandsOnce}
 
--- "One test over the whole table ties each entry to the definition.": what is computed of the constant
+-- "One test over the whole table ties each entry to the definition.": what is computed of the constant, and how many entries it looks at
+abbrev pub testedEntries : ℕ
+testedEntries = tableSize
+
 unfoldable pub tested? : List ℕ → Bool
-tested? table = same? (take tableSize table) (take tableSize repeatLengths)
+tested? table = same? (take testedEntries table) (take testedEntries repeatLengths)
 
 -- the same of the starts: behind all patterns that are shorter
 unfoldable pub startsRight? : List ℕ → Bool

@@ -10,7 +10,7 @@ use lib.ListN.{length, getD, length-append, length-map, List·getD-append}
 use lib.Seq.{getD-append-add}
 use Rattle.model.specs.Limits.{mostLabel}
 use Rattle.model.specs.Lists.{from}
-use Rattle.model.specs.Patterns.{Keyed, code}
+use Rattle.model.specs.Patterns.{Keyed}
 use Rattle.model.specs.Computed.Patterns.{words, keyedPatterns}
 use Rattle.model.specs.Computed.Table.{shorter, ordinalFrom, place, StandsOnce}
 use Rattle.model.proofs.Lists.{length-from, length-spread, at-in, at-spread, at-map, at-from, at-sorted}

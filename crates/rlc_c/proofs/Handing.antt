@@ -2,13 +2,13 @@
 use mathlib.Core.Path.{_≡_, refl, sym, ap, _∙_}
 use mathlib.Core.Bool.{true, false}
 use mathlib.Core.List.{List, [], _∷_}
-use Prim.Native.Nat.{ℕ, zero, suc, _≤_}
+use Prim.Native.Nat.{ℕ, zero, suc}
 use native.Mathlib.Omega.{arith}
 use lib.ListN.{length, set}
 use Rattle.model.specs.Replies.{numberOf, answerOf}
 use Rattle.model.specs.declared.Refusal.{Refusal}
 use Rattle.model.specs.declared.Answer.the-variants.{Accepted, Refused}
-use Rattle.model.proofs.Tests.{test-true, test-false, test-eq, by-test}
+use Rattle.model.proofs.Tests.{test-true, test-false, test-eq}
 use Rattle.model.proofs.Replies.{number-some}
 use Rattle.calls.specs.Call.{Memory, Outcome, Meets, Returned}
 use Rattle.store.specs.Store.{returned}

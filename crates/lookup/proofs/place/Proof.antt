@@ -1,11 +1,9 @@
 -- `lookup::place` meets its contract. The invariant: the digits so far, with the labels that are left behind them, are the ordinal. No label
 -- lessens it, so every step stays below the size of the table.
-use mathlib.Core.Path.{_≡_, refl, ap, ap₂, _∙_}
-use mathlib.Core.List.{List, map}
-use Prim.Native.Nat.{ℕ, _+_, _-_, _*_, _≤_, _<_}
+use mathlib.Core.Path.{_≡_, _∙_}
+use Prim.Native.Nat.{_+_, _-_, _≤_, _<_}
 use native.Mathlib.Omega.{arith}
-use borrow.Author.Needs.{needs}
-use lib.ListN.{length, getD, drop}
+use lib.ListN.{length, drop}
 use Rattle.model.specs.Limits.{tableSize}
 use Rattle.model.specs.Lists.{from}
 use Rattle.model.specs.Computed.Lists.{spread}

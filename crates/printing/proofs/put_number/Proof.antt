@@ -8,7 +8,7 @@ use Rattle.printing.proofs.put_number.Tie as tie
 put-requires : tie.Need-put-requires
 put-requires c κs =
     let digits = c .before .before .before in
-    omega (arith, digits .put-digits .kept .0, numeral-end 10 10 _ (digits .put-digits .ensures), digits .before .before .before .pre)
+    omega (arith, digits .put-digits .kept .0, numeral-end _ _ _ (digits .put-digits .ensures), digits .before .before .before .pre)
 
 returns : tie.Need-returns
 returns c =

@@ -1,8 +1,6 @@
 -- `repeat_table::put_lengths` meets its contract. The invariant: the lines of the lengths below i are put (`LinesPut`).
-use mathlib.Core.Path.{_≡_}
-use Prim.Native.Nat.{_+_, _-_, _*_, _≤_}
+use Prim.Native.Nat.{_-_, _≤_}
 use native.Mathlib.Omega.{arith}
-use lib.ListN.{length}
 use Rattle.repeat_table.proofs.Listed.{LinesPut, lines-begin, lines-turn, lines-end}
 use Rattle.repeat_table.proofs.put_lengths.Statement.{statement}
 use Rattle.repeat_table.proofs.put_lengths.Tie as tie
