@@ -17,7 +17,7 @@
  * A slice is a pointer and then its number of elements. Elements must be aligned as their C type asks. A slice
  * of 0 elements may have any pointer, NULL too. One memory must not be lent twice in one call, nor changed by
  * another thread or an interrupt while the call runs. Stack use, as measured on x86-64: below 24 KiB for insert,
- * remove and read card, 20 KiB for a query, 4 KiB for the others.
+ * remove and read card, 20 KiB for a query, 6 KiB for the minimum repeat from the table, 4 KiB for the others.
  *
  * A refused call changes nothing that was lent, except that refusal 13 zeroes work memory.
  */
@@ -95,8 +95,12 @@ uint32_t rlc_read_card(uint32_t *record, size_t record_n, const uint8_t *card, s
  * Returns the card's length, 9 + 3 * edges; refused, the refusal * 2^32. */
 uint64_t rlc_write_card(const uint32_t *record, size_t record_n, const uint32_t *edges, size_t edges_n, uint8_t *output, size_t output_n);
 
-/* The length of the pattern's minimum repeat; 0 unless the pattern is 1 to 4 labels 1 to 8. */
+/* The length of the pattern's minimum repeat, from a constant table; 0 unless the pattern is 1 to 4 labels 1 to 8. */
 uint32_t rlc_minimum_repeat(const uint8_t *pattern, size_t pattern_n);
+
+/* The same, computed: it tries one length after another. The two agree on every pattern; this one takes less time and
+ * stack (docs/BENCHMARKS.md says why). */
+uint32_t rlc_minimum_repeat_computed(const uint8_t *pattern, size_t pattern_n);
 
 #ifdef __cplusplus
 }

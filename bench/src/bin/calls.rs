@@ -1,6 +1,8 @@
-//! Times the public calls through the C interface beside Rust programs, in one run: a lay, the plain check, and a query against a fresh
-//! search. Both take turns; buffers are as the last repetition left them.
+//! Times the public calls through the C interface beside Rust programs, in one run: a lay, the plain check, a query against a fresh
+//! search, and the folding of patterns. Both take turns; buffers are as the last repetition left them.
 
+#[path = "../folding.rs"]
+mod folding;
 #[path = "../layouts.rs"]
 mod layouts;
 #[path = "../levels.rs"]
@@ -24,6 +26,8 @@ extern "C" {
                  index: *const u64, slots: usize) -> u32;
     fn rlc_search(record: *const u32, n: usize, start: u32, destination: u32, pattern: *const u8, p: usize, limit: u32,
                   edges: *const u32, m: usize, work: *mut u64, w: usize) -> u64;
+    fn rlc_minimum_repeat(pattern: *const u8, p: usize) -> u32;
+    fn rlc_minimum_repeat_computed(pattern: *const u8, p: usize) -> u32;
 }
 
 const YES: u64 = 100;
@@ -126,7 +130,33 @@ fn time_queries(name: &str, lent: &mut Lent, questions: usize) {
     print_times(name, proved, rust, format!("{questions} queries"));
 }
 
+type Fold = unsafe extern "C" fn(*const u8, usize) -> u32;
+
+/// Folds of all patterns, or of those of one length, in random order: ns a fold, by a leaf and by a lookup in Rust.
+fn time_folds(name: &str, leaf: Fold, patterns: &[Vec<u8>], repeats: usize) {
+    let rounds = 1 + 20_000 / patterns.len();
+    let folds = (rounds * patterns.len()) as f64;
+    let (mut proved, mut rust) = (Vec::new(), Vec::new());
+    for _ in 0..repeats {
+        let (time, a) = millis(|| folding::sum(patterns, rounds, |p| unsafe { leaf(p.as_ptr(), p.len()) }));
+        proved.push(time * 1e6 / folds);
+        let (time, b) = millis(|| folding::sum(patterns, rounds, |p| folding::look_up(p) as u32));
+        rust.push(time * 1e6 / folds);
+        assert_eq!(a, b);
+    }
+    print_times(name, proved, rust, format!("{} patterns", patterns.len()));
+}
+
 fn main() {
+    heading("fold", "ns");
+    let patterns = folding::shuffled(&mut Random(9));
+    for (name, leaf) in [("table", rlc_minimum_repeat as Fold), ("computed", rlc_minimum_repeat_computed)] {
+        time_folds(name, leaf, &patterns, 100);
+        for length in 1..=4 {
+            let of_length: Vec<Vec<u8>> = patterns.iter().filter(|p| p.len() == length).cloned().collect();
+            time_folds(&format!("{name} of {length}"), leaf, &of_length, 100);
+        }
+    }
     let layouts: Vec<Layout> = layouts::all();
     heading("lay", "ms");
     let mut held = Vec::new();
