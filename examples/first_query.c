@@ -15,9 +15,15 @@ int main(void) {
         printf("insert %u\n", rlc_insert(record, 2, legs[i][0], legs[i][1], legs[i][2], edges, 16, index, 64, work, 4096 + 64));
 
     const uint8_t pattern[2] = {1, 2};
-    printf("0 to 0 by 1,2: %s\n", rlc_query(record, 2, 0, 0, pattern, 2, index, 64) == RLC_YES ? "yes" : "no");
-    printf("0 to 0 by 1: %s\n", rlc_query(record, 2, 0, 0, pattern, 1, index, 64) == RLC_YES ? "yes" : "no");
-    printf("0 to 3 by 1: refused %u\n", rlc_query(record, 2, 0, 3, pattern, 1, index, 64));
+    uint32_t reply = rlc_query(record, 2, 0, 0, pattern, 2, edges, 16, index, 64, work, 4096 + 64);
+    printf("0 to 0 by 1,2: %s\n", reply == RLC_YES ? "yes" : "no");
+    reply = rlc_query(record, 2, 0, 0, pattern, 1, edges, 16, index, 64, work, 4096 + 64);
+    printf("0 to 0 by 1: %s\n", reply == RLC_YES ? "yes" : "no");
+    const uint8_t twice[2] = {1, 1}; /* an even number of edges */
+    reply = rlc_query(record, 2, 0, 2, twice, 2, edges, 16, index, 64, work, 4096 + 64);
+    printf("0 to 2 by 1,1: %s\n", reply == RLC_YES ? "yes" : "no");
+    reply = rlc_query(record, 2, 0, 3, pattern, 1, edges, 16, index, 64, work, 4096 + 64);
+    printf("0 to 3 by 1: refused %u\n", reply);
 
     uint8_t card[64];
     uint64_t length = rlc_write_card(record, 2, edges, 16, card, sizeof card);

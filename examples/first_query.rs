@@ -31,8 +31,12 @@ extern "C" {
         destination: u32,
         pattern: *const u8,
         pattern_n: usize,
+        edges: *const u32,
+        edges_n: usize,
         index: *const u64,
         index_n: usize,
+        work: *mut u64,
+        work_n: usize,
     ) -> u32;
     #[rustfmt::skip]
     fn rlc_write_card(
@@ -81,11 +85,12 @@ impl Layout {
         }
     }
 
-    fn query(&self, start: u32, destination: u32, pattern: &[u8]) -> u32 {
-        let (record, index) = (&self.record, &self.index);
+    fn query(&mut self, start: u32, destination: u32, pattern: &[u8]) -> u32 {
+        let (record, edges, index, work) = (&self.record, &self.edges, &self.index, &mut self.work);
         #[rustfmt::skip]
         let reply = unsafe {
-            rlc_query(record.as_ptr(), 2, start, destination, pattern.as_ptr(), pattern.len(), index.as_ptr(), index.len())
+            rlc_query(record.as_ptr(), 2, start, destination, pattern.as_ptr(), pattern.len(), edges.as_ptr(), edges.len(),
+                      index.as_ptr(), index.len(), work.as_mut_ptr(), work.len())
         };
         reply
     }
@@ -126,6 +131,8 @@ fn main() {
     }
     println!("0 to 0 by 1,2: {}", yes_or_no(layout.query(0, 0, &[1, 2])));
     println!("0 to 0 by 1: {}", yes_or_no(layout.query(0, 0, &[1])));
+    // An even number of edges.
+    println!("0 to 2 by 1,1: {}", yes_or_no(layout.query(0, 2, &[1, 1])));
     println!("0 to 3 by 1: refused {}", layout.query(0, 3, &[1]));
     let mut card = [0; 64];
     let length = layout.card(&mut card) as usize;

@@ -2,8 +2,8 @@
  *
  * A layout is a directed graph: vertices (places) numbered from 0, and edges (legs), each from a vertex to a
  * vertex, perhaps the same one, with a label (colour) 1 to 8. A query names a start, a destination and a
- * pattern of labels. The reply is yes exactly when some walk of one or more edges spells the pattern's
- * minimum repeat one or more whole times: 1,2,1,2 is asked as 1,2.
+ * pattern of labels. The reply is yes exactly when some walk of one or more edges spells the pattern, as
+ * keyed, one or more whole times: by 1 any number of edges with label 1, by 1,1 an even number.
  *
  * Everything the library works on is lent by its caller with each call. Nothing is kept between calls, there
  * is no heap and no global state, and every call returns.
@@ -12,7 +12,8 @@
  *   edges    edge memory, 0 to 1,024 slots: one edge a slot, from * 4096 + label * 256 + to, strictly rising, then zeros
  *   index    index memory, any number of slots: one entry a slot, strictly rising, then zeros
  *   work     at least 4,096 numbers; if an index is built (insert, remove, read card), one more for each index
- *            slot. Contents do not matter. Zero after an accepted call and after refusal 13, else untouched.
+ *            slot. Contents do not matter. Zero after an accepted call and after refusal 13, else untouched. A
+ *            query uses it only if its pattern repeats itself (see rlc_query).
  *
  * A slice is a pointer and then its number of elements. Elements must be aligned as their C type asks. A slice
  * of 0 elements may have any pointer, NULL too. One memory must not be lent twice in one call, nor changed by
@@ -74,12 +75,21 @@ uint32_t rlc_insert(uint32_t *record, size_t record_n, uint32_t from, uint32_t l
 uint32_t rlc_remove(uint32_t *record, size_t record_n, uint32_t from, uint32_t label, uint32_t to, uint32_t *edges, size_t edges_n,
                     uint64_t *index, size_t index_n, uint64_t *work, size_t work_n);
 
-/* Asks the index. Refusals 1 2 10 11 12. Returns 100 yes, 0 no, else the refusal. On the record and index memory
- * that the last accepted change left the reply is right. */
+/* Asks whether a walk from start to destination runs the pattern. Refusals 1 2 10 11 12, and then, only for a
+ * pattern that repeats itself, 3 4. Returns 100 yes, 0 no, else the refusal. Whether a query needs edge and work
+ * memory depends on its pattern (rlc_times_written tells which it is):
+ *
+ * - Written once, as 1 or 1,2 or 1,2,1: the index replies. Edges and work are not looked at and stay as they are;
+ *   both may have length 0. On the record and index memory that the last accepted change left the reply is right.
+ * - Repeating itself, as 1,1 or 1,2,1,2: the index has no such pattern, so the call costs a search of the edges
+ *   (as rlc_search does) after the check of index memory. It needs edge memory and 4,096 numbers of work memory,
+ *   which are zero afterwards unless the call is refused. On the record, edge and index memory that the last
+ *   accepted change left the reply is right. */
 uint32_t rlc_query(const uint32_t *record, size_t record_n, uint32_t start, uint32_t destination, const uint8_t *pattern, size_t pattern_n,
-                   const uint64_t *index, size_t index_n);
+                   const uint32_t *edges, size_t edges_n, const uint64_t *index, size_t index_n, uint64_t *work, size_t work_n);
 
-/* Searches level by level, without the index; at most level_limit levels are built, and 1,025 always suffice.
+/* Searches level by level, without the index, for a walk that runs the pattern as keyed; at most level_limit
+ * levels are built, and 1,025 always suffice.
  * Refusals 1 2 3 4 10 11. Returns reply * 2^32 + levels built: reply 100 yes, 0 no, 101 spent, else the refusal
  * with levels 0. A record without 2 numbers gives 255 * 2^32. */
 uint64_t rlc_search(const uint32_t *record, size_t record_n, uint32_t start, uint32_t destination, const uint8_t *pattern, size_t pattern_n,
@@ -101,6 +111,10 @@ uint32_t rlc_minimum_repeat(const uint8_t *pattern, size_t pattern_n);
 /* The same, computed: it tries one length after another. The two agree on every pattern; this one takes less time and
  * stack (docs/BENCHMARKS.md says why). */
 uint32_t rlc_minimum_repeat_computed(const uint8_t *pattern, size_t pattern_n);
+
+/* How many times the minimum repeat was written: the pattern's length is this times that; 0 unless the pattern is
+ * 1 to 4 labels 1 to 8. 2 for 1,1 and for 1,2,1,2. */
+uint32_t rlc_times_written(const uint8_t *pattern, size_t pattern_n);
 
 #ifdef __cplusplus
 }

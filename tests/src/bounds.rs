@@ -3,11 +3,11 @@
 
 use crate::calls::{card_of, Check, Memory, EDGES};
 use crate::compare::{Tester, SPENT, YES};
-use crate::gen;
+use crate::gen::{self, Layout};
 use crate::lent::Lent;
 use crate::library::*;
 use crate::reference::*;
-use crate::trials::CARD_A;
+use crate::trials::{CARD_A, SLOTS_A};
 
 pub fn run(t: &mut Tester) {
     t.part = "bounds";
@@ -16,6 +16,9 @@ pub fn run(t: &mut Tester) {
     cards(t);
     largest(t);
     longest_search(t);
+    longest_again(t);
+    query_memories(t);
+    no_memory(t);
     record_lengths(t);
     joins(t);
     aliases(t);
@@ -53,9 +56,12 @@ fn small_memories(t: &mut Tester) {
                 t.open([3, 2], &mut memory);
                 memory.work = t.rng.words(work);
                 t.change(true, record, (2, 1, 0), &mut memory);
-                t.query(record, 2, 0, &[1], &memory.index);
-                let check = Check { start: 2, destination: 0, pattern: vec![1, 1], allowed: 3 };
-                t.search(record, &check, &mut memory);
+                for pattern in [vec![1], vec![1, 1]] {
+                    memory.work = t.rng.words(work);
+                    t.query(record, 2, 0, &pattern, &mut memory);
+                    memory.work = t.rng.words(work);
+                    t.search(record, &Check { start: 2, destination: 0, pattern, allowed: 3 }, &mut memory);
+                }
             }
         }
     }
@@ -134,12 +140,18 @@ fn of_largest(t: &mut Tester, edges: &[Edge], memory: &mut Memory) {
     memory.work = t.rng.words(memory.index.len() + 4096);
     let reply = t.change(true, [256, 4], absent, memory);
     t.expect("an edge for which there is no slot", reply, 9);
+    let layout = Layout { record: [256, 4], labels: vec![1, 2] };
     for _ in 0..300 {
         let (start, destination) = (t.rng.below(256) as u32, t.rng.below(256) as u32);
         let length = t.rng.from_to(1, 4);
         let pattern: Vec<u8> = (0..length).map(|_| t.rng.from_to(1, 2) as u8).collect();
         if t.rng.one_in(20) {
-            t.query([256, 4], start, destination, &pattern, &memory.index);
+            let length = t.rng.from_to(2, 4);
+            let again = gen::repeating_pattern(&mut t.rng, &layout, length);
+            for pattern in [&pattern, &again] {
+                memory.work = t.rng.words(4096);
+                t.query([256, 4], start, destination, pattern, memory);
+            }
         }
         let check = Check { start, destination, pattern, allowed: t.rng.pick(&[3, 1025]) };
         let mut lent = Memory { edges: memory.edges.clone(), index: vec![], work: t.rng.words(4096) };
@@ -163,6 +175,93 @@ fn longest_search(t: &mut Tester) {
     }
 }
 
+/// Patterns that repeat themselves, on cycles with one edge from each vertex or two: with 255 vertices the walk has to
+/// go round again before a whole pattern ends where it began, with 256 the pattern 1,1,1,1 ends at every fourth vertex
+/// only. Level i holds one pair, i edges on.
+fn longest_again(t: &mut Tester) {
+    let cycle = |n: u32| -> Vec<Edge> { (0..n).map(|v| (v, 1, (v + 1) % n)).collect() };
+    let stops: Vec<Edge> = (0..255).flat_map(|v| [(v, 1, v), (v, 2, (v + 1) % 255)]).collect();
+    let (ones, pairs) = (vec![1, 1, 1, 1], vec![1, 2, 1, 2]);
+    let asked: [(Vec<Edge>, u32, u32, Vec<u8>, (u32, u32)); 11] = [
+        (cycle(255), 7, 7, ones.clone(), (YES, 1020)), // the least number that both 255 and 4 divide
+        (cycle(255), 7, 6, ones.clone(), (YES, 764)),  // 2 times round and 254 edges, 4 times 191
+        (cycle(255), 7, 255, ones.clone(), (0, 1021)), // all pairs of 255 vertices seen
+        (cycle(255), 7, 8, vec![1, 1], (YES, 256)),    // once round and one edge
+        (cycle(255), 7, 7, vec![1, 1, 1], (YES, 255)), // 3 divides 255
+        (cycle(256), 7, 7, ones.clone(), (YES, 256)),
+        (cycle(256), 7, 8, ones.clone(), (0, 257)),
+        (cycle(256), 7, 9, ones, (0, 257)), // though 1,1 ends there
+        (cycle(256), 7, 10, vec![1, 1, 1], (YES, 3)),
+        (stops.clone(), 7, 7, pairs.clone(), (YES, 1020)), // once round is 510 edges, and 4 does not divide them
+        (stops, 7, 255, pairs, (0, 1021)),
+    ];
+    for (edges, start, destination, pattern, expected) in asked {
+        let mut memory = Memory { edges: gen::edge_memory(&edges, EDGES), ..gen::noise(&mut t.rng, 0, 0, 4096) };
+        let reply = t.query([256, 4], start, destination, &pattern, &mut memory);
+        t.expect("a query of a pattern that goes round", reply, expected.0);
+        let levels = expected.1;
+        for (allowed, expected) in [(levels - 1, (SPENT, levels - 1)), (levels, expected), (1025, expected)] {
+            memory.work = t.rng.words(4096);
+            let check = Check { start, destination, pattern: pattern.clone(), allowed };
+            let reply = t.search([256, 4], &check, &mut memory);
+            t.expect("a search for a pattern that goes round", reply, expected);
+        }
+    }
+}
+
+/// Lengths of edge, index and work memory lent to a query in layout A. No index is built, so its slots ask for no work
+/// memory.
+fn query_memories(t: &mut Tester) {
+    for slots in [3, 4, 1023, 1024, 1025, 2048] {
+        for index in [5, 6, 1024] {
+            for work in [0, 1, 4095, 4096, 4097, 6000] {
+                in_memories(t, slots, index, work);
+            }
+        }
+    }
+    for (count, refused) in [(EDGES, false), (EDGES + 1, true)] {
+        let edges = gen::many_edges(&mut t.rng, count);
+        let mut memory = Memory { edges: gen::edge_memory(&edges, count), ..gen::noise(&mut t.rng, 0, 0, 4096) };
+        let reply = t.query([256, 2], 0, 1, &[1, 1], &mut memory);
+        t.expect("full edge memory", reply == 3, refused);
+    }
+}
+
+/// The lengths matter for 1,1 and not for 1.
+fn in_memories(t: &mut Tester, slots: usize, index: usize, work: usize) {
+    let a = [(0, 1, 1), (1, 1, 2), (1, 2, 0)];
+    let mut memory = Memory { edges: gen::edge_memory(&a, slots), index: SLOTS_A.to_vec(), work: t.rng.words(work) };
+    memory.index.resize(index, 0);
+    let found = memory.work.clone();
+    let reply = t.query([3, 2], 0, 2, &[1], &mut memory);
+    t.expect("a pattern written once, in memory of any length", reply, YES);
+    t.expect("work memory as found", memory.work == found, true);
+    let refusal = match (slots, work) {
+        (1025.., _) => Some(3),
+        (_, 0..=4095) => Some(4),
+        _ => None,
+    };
+    let left = if refusal.is_some() { found.clone() } else { vec![0; work] };
+    for (destination, answer) in [(2, YES), (1, 0)] {
+        memory.work = found.clone();
+        let reply = t.query([3, 2], 0, destination, &[1, 1], &mut memory);
+        t.expect("a pattern that repeats itself", reply, refusal.unwrap_or(answer));
+        t.expect("work memory zero, or as found if refused", memory.work == left, true);
+    }
+}
+
+/// No edge and work memory at all, as null pointers: enough for a pattern written once; 4 for one that repeats itself.
+fn no_memory(t: &mut Tester) {
+    let (record, pattern) = ([3, 2], [1, 1]);
+    let (edges, work) = (std::ptr::null(), std::ptr::null_mut());
+    for (labels, expected) in [(1, YES), (2, 4)] {
+        t.calls += 1;
+        let (r, p, i) = (record.as_ptr(), pattern.as_ptr(), SLOTS_A.as_ptr());
+        let reply = unsafe { rlc_query(r, 2, 0, 2, p, labels, edges, 0, i, SLOTS_A.len(), work, 0) };
+        t.expect("a query without edge and work memory", reply, expected);
+    }
+}
+
 /// A record of another length than 2: 255, and nothing is touched.
 fn record_lengths(t: &mut Tester) {
     for n in [0, 1, 3, 4, 100] {
@@ -173,7 +272,7 @@ fn record_lengths(t: &mut Tester) {
         let mut work: Lent<u64> = Lent::new(&[5; 4116], 80);
         let mut card: Lent<u8> = Lent::new(&CARD_A, 81);
         let mut output: Lent<u8> = Lent::new(&[3; 30], 82);
-        let mut pattern: Lent<u8> = Lent::new(&[1], 83);
+        let mut pattern: Lent<u8> = Lent::new(&[1, 1], 83);
         let wide = 255 << 32;
         let (r, e, i) = (record.pointer(), edges.pointer(), index.pointer());
         let (w, c, o, p) = (work.pointer(), card.pointer(), output.pointer(), pattern.pointer());
@@ -181,8 +280,11 @@ fn record_lengths(t: &mut Tester) {
             t.expect("open, 255", rlc_open(r, n, e, 3, i, 20), 255);
             t.expect("insert, 255", rlc_insert(r, n, 1, 1, 2, e, 3, i, 20, w, 4116), 255);
             t.expect("remove, 255", rlc_remove(r, n, 0, 1, 1, e, 3, i, 20, w, 4116), 255);
-            t.expect("query, 255", rlc_query(r, n, 0, 1, p, 1, i, 20), 255);
-            t.expect("search, 255", rlc_search(r, n, 0, 1, p, 1, 5, e, 3, w, 4116), wide);
+            // By 1, and by 1,1, which repeats itself.
+            for labels in [1, 2] {
+                t.expect("query, 255", rlc_query(r, n, 0, 1, p, labels, e, 3, i, 20, w, 4116), 255);
+                t.expect("search, 255", rlc_search(r, n, 0, 1, p, labels, 5, e, 3, w, 4116), wide);
+            }
             t.expect("read_card, 255", rlc_read_card(r, n, c, 18, e, 3, i, 20, w, 4116), 255);
             t.expect("write_card, 255", rlc_write_card(r, n, e, 3, o, 30), wide);
         }
@@ -190,11 +292,11 @@ fn record_lengths(t: &mut Tester) {
             && edges.content() == [257, 0, 0]
             && index.content() == [9; 20]
             && work.content() == [5; 4116];
-        let rest = card.content() == CARD_A && output.content() == [3; 30] && pattern.content() == [1];
+        let rest = card.content() == CARD_A && output.content() == [3; 30] && pattern.content() == [1, 1];
         let guards = record.guards_hold() && edges.guards_hold() && index.guards_hold() && work.guards_hold();
         let more = card.guards_hold() && output.guards_hold() && pattern.guards_hold();
         t.expect("nothing touched after 255", untouched && rest && guards && more, true);
-        t.calls += 7;
+        t.calls += 9;
     }
 }
 
@@ -217,7 +319,8 @@ fn joins(t: &mut Tester) {
                 index.extend(halves.iter().enumerate().filter(|(i, _)| kept >> i & 1 == 1).map(|(_, entry)| entry));
                 index.sort();
                 index.dedup();
-                let reply = t.query([256, 4], start, destination, &labels, &index);
+                let mut memory = Memory { index, ..Memory::default() };
+                let reply = t.query([256, 4], start, destination, &labels, &mut memory);
                 t.expect("a yes where two entries meet", kept == 3 && reply != YES, false);
             }
         }

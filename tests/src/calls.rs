@@ -1,10 +1,10 @@
-//! Every public call as document 01 defines it, on plain values. Each returns all refusals that apply, in the call's
-//! order: the first is the reply, an empty list is acceptance. What the others are good for is the count of pairs
-//! of refusals that applied at once.
+//! Every public call as documents 01 and 02 define it, on plain values. Each returns all refusals that apply, in the
+//! call's order: the first is the reply, an empty list is acceptance. What the others are good for is the count of
+//! pairs of refusals that applied at once.
 //!
 //! If an earlier condition applies, a later one is judged as far as it has a meaning: 7, 8, 9, 13 and 17 if edge
-//! memory reads as rising edges of some layout, and 13 by patterns of at most 2 labels (longer ones only add
-//! entries).
+//! memory reads as rising edges of some layout, 13 by patterns of at most 2 labels (longer ones only add
+//! entries), and a query's 3 and 4 if its pattern is labels that repeat themselves, also too many of them.
 
 use crate::reference::*;
 use std::collections::BTreeSet;
@@ -43,17 +43,24 @@ fn bad_pattern(pattern: &[u8], longest: u32) -> bool {
     pattern.is_empty() || pattern.len() > longest as usize || !pattern.iter().all(|label| is_label(*label as u32))
 }
 
-/// The length of the minimum repeat of 1 to 4 labels 1 to 8; 0 of anything else.
-pub fn minimum_repeat_length(pattern: &[u8]) -> u32 {
+/// The length of the minimum repeat of 1 to 4 labels 1 to 8, and how many times it was written; 0 and 0 of
+/// anything else.
+pub fn repeat_and_times(pattern: &[u8]) -> (u32, u32) {
     if bad_pattern(pattern, 4) {
-        0
+        (0, 0)
     } else {
-        minimum_repeat(pattern).len() as u32
+        (minimum_repeat(pattern).len() as u32, times_written(pattern) as u32)
     }
 }
 
-pub fn folded(pattern: &[u8]) -> Vec<u32> {
-    minimum_repeat(pattern).iter().map(|label| *label as u32).collect()
+/// Labels that are their minimum repeat written more than once, however many they are.
+pub fn repeats_itself(pattern: &[u8]) -> bool {
+    pattern.iter().all(|label| is_label(*label as u32)) && times_written(pattern) > 1
+}
+
+/// The pattern as keyed.
+pub fn keyed(pattern: &[u8]) -> Vec<u32> {
+    pattern.iter().map(|label| *label as u32).collect()
 }
 
 /// `values`, then zeros.
@@ -117,18 +124,30 @@ pub fn change(insertion: bool, record: Record, edge: Edge, memory: &mut Memory) 
     settle(refusals, &wanted, record[1], memory)
 }
 
-/// The query (question): its refusals, and yes or no if there are none.
-pub fn query(record: Record, start: u32, destination: u32, pattern: &[u8], index: &[u64]) -> (Refusals, bool) {
+/// The query (question): its refusals, and yes or no if there are none. For a pattern written once the index replies;
+/// edge and work memory are not looked at. Otherwise the walks reply that spell the pattern as keyed, and work memory
+/// ends zero.
+pub fn query(record: Record, start: u32, destination: u32, pattern: &[u8], memory: &mut Memory) -> (Refusals, bool) {
     let [vertices, longest] = record;
+    let again = repeats_itself(pattern);
     let refusals = applying(&[
         (1, bad_vertices(record)),
         (2, bad_longest(longest)),
         (10, start >= vertices || destination >= vertices),
         (11, bad_pattern(pattern, longest)),
-        (12, !is_index(index, vertices, longest)),
+        (12, !is_index(&memory.index, vertices, longest)),
+        (3, again && bad_edges(&memory.edges, vertices)),
+        (4, again && memory.work.len() < WORK),
     ]);
-    let yes = refusals.is_empty() && answer(index, start, destination, &folded(pattern));
-    (refusals, yes)
+    if !refusals.is_empty() {
+        return (refusals, false);
+    }
+    if !again {
+        return (refusals, answer(&memory.index, start, destination, &keyed(pattern)));
+    }
+    memory.work.fill(0);
+    let edges = standing(&memory.edges).unwrap();
+    (refusals, spelled_ends(&edges, start, &keyed(pattern)).contains(&destination))
 }
 
 /// What a plain check is asked.
@@ -156,7 +175,7 @@ pub fn search(record: Record, check: &Check, edges: &[u32], work: &mut [u64]) ->
     }
     work.fill(0);
     let edges = standing(edges).unwrap();
-    (refusals, levels(&edges, check.start, check.destination, &folded(&check.pattern), check.allowed))
+    (refusals, levels(&edges, check.start, check.destination, &keyed(&check.pattern), check.allowed))
 }
 
 /// The layout card of a header and edges.

@@ -5,7 +5,7 @@ use crate::calls::{self, Check, Memory, Record};
 use crate::counts::{Call, Counts};
 use crate::lent::Lent;
 use crate::library::*;
-use crate::reference::{Edge, Found};
+use crate::reference::{minimum_repeat, runs, standing, Edge, Found};
 use crate::rng::Rng;
 use std::fmt::Debug;
 
@@ -112,21 +112,35 @@ impl Tester {
         expected
     }
 
-    /// The question. Returns the reply: 0 no, 100 yes, or a refusal.
-    pub fn query(&mut self, record: Record, start: u32, destination: u32, pattern: &[u8], index: &[u64]) -> u32 {
+    /// The question. Returns the reply, 0 no, 100 yes, or a refusal; work memory becomes what the call leaves.
+    pub fn query(&mut self, record: Record, start: u32, destination: u32, pattern: &[u8], memory: &mut Memory) -> u32 {
         let mut lent_record = self.lend(&record, |n| n as u32);
         let mut lent_pattern = self.lend(pattern, |n| n as u8);
-        let mut lent_index = self.lend(index, |n| n);
-        let (refusals, yes) = calls::query(record, start, destination, pattern, index);
+        let (mut edges, mut index, mut work) = self.lend_memory(memory);
+        let (refusals, yes) = calls::query(record, start, destination, pattern, memory);
         let expected = self.count(Call::Query, &refusals) + if yes { YES } else { 0 };
-        let (p, i) = ((lent_pattern.pointer(), lent_pattern.len()), (lent_index.pointer(), lent_index.len()));
-        let got = unsafe { rlc_query(lent_record.pointer(), 2, start, destination, p.0, p.1, i.0, i.1) };
-        let call = || format!("query {record:?} {start} {destination} {pattern:?} index {}", slots(index));
+        if refusals.is_empty() && calls::repeats_itself(pattern) {
+            self.count_again(start, destination, pattern, memory, yes);
+        }
+        let (r, p) = (lent_record.pointer(), (lent_pattern.pointer(), lent_pattern.len()));
+        let (e, i, w) = ((edges.pointer(), edges.len()), (index.pointer(), index.len()), (work.pointer(), work.len()));
+        let got = unsafe { rlc_query(r, 2, start, destination, p.0, p.1, e.0, e.1, i.0, i.1, w.0, w.1) };
+        let call = || format!("query {record:?} {start} {destination} {pattern:?} {}", show(memory));
         self.same_reply(&call, got, expected);
         self.same(&call, "record", &lent_record, &record);
         self.same(&call, "pattern", &lent_pattern, pattern);
-        self.same(&call, "index memory", &lent_index, index);
+        self.same(&call, "edge memory", &edges, &memory.edges);
+        self.same(&call, "index memory", &index, &memory.index);
+        self.same(&call, "work memory", &work, &memory.work);
         expected
+    }
+
+    /// Counts an answered question by a pattern that repeats itself, and whether its minimum repeat would be answered
+    /// alike.
+    fn count_again(&mut self, start: u32, destination: u32, pattern: &[u8], memory: &Memory, yes: bool) {
+        let edges = standing(&memory.edges).unwrap();
+        let folded = yes || runs(&edges, start, destination, &minimum_repeat(&calls::keyed(pattern)));
+        self.counts.add_again(yes, folded);
     }
 
     /// The plain check. Returns (0 no, 100 yes, 101 spent, or a refusal; levels).
@@ -198,13 +212,16 @@ impl Tester {
         expected
     }
 
-    /// The length of the minimum repeat, by the table and computed.
-    pub fn minimum_repeat(&mut self, pattern: &[u8]) -> u32 {
-        let expected = calls::minimum_repeat_length(pattern);
+    /// The length of the minimum repeat, by the table and computed, and how many times it was written.
+    pub fn minimum_repeat(&mut self, pattern: &[u8]) -> (u32, u32) {
+        let (length, times) = calls::repeat_and_times(pattern);
         type Fold = unsafe extern "C" fn(*const u8, usize) -> u32;
-        let both: [(&str, Fold); 2] =
-            [("minimum_repeat", rlc_minimum_repeat), ("minimum_repeat_computed", rlc_minimum_repeat_computed)];
-        for (name, function) in both {
+        let functions: [(&str, Fold, u32); 3] = [
+            ("minimum_repeat", rlc_minimum_repeat, length),
+            ("minimum_repeat_computed", rlc_minimum_repeat_computed, length),
+            ("times_written", rlc_times_written, times),
+        ];
+        for (name, function, expected) in functions {
             self.calls += 1;
             let mut lent = self.lend(pattern, |n| n as u8);
             let got = unsafe { function(lent.pointer(), lent.len()) };
@@ -212,7 +229,7 @@ impl Tester {
             self.same_reply(&call, got, expected);
             self.same(&call, "pattern", &lent, pattern);
         }
-        expected
+        (length, times)
     }
 }
 

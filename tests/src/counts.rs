@@ -1,5 +1,5 @@
 //! How often each call was accepted, gave each refusal, and had each pair of refusals apply at once (the
-//! earlier one returned).
+//! earlier one returned); and how the questions by patterns that repeat themselves were answered.
 
 use std::collections::BTreeMap;
 
@@ -14,12 +14,12 @@ pub enum Call {
     WriteCard,
 }
 
-/// Each call's refusals in document 01's order.
+/// Each call's refusals in document 01's order, with document 02's for the query.
 pub const ORDERS: [(Call, &[u32]); 7] = [
     (Call::Open, &[1, 2, 3]),
     (Call::Insert, &[1, 2, 3, 4, 5, 6, 7, 9, 13]),
     (Call::Remove, &[1, 2, 3, 4, 5, 6, 8, 13]),
-    (Call::Query, &[1, 2, 10, 11, 12]),
+    (Call::Query, &[1, 2, 10, 11, 12, 3, 4]),
     (Call::Search, &[1, 2, 3, 4, 10, 11]),
     (Call::ReadCard, &[14, 15, 2, 16, 3, 9, 4, 13]),
     (Call::WriteCard, &[1, 2, 3, 17]),
@@ -31,11 +31,15 @@ pub const IMPOSSIBLE: [(Call, u32, u32, &str); 2] = [
     (Call::Insert, 6, 7, "edge memory that passed 3 holds no edge with a label not 1 to 8"),
 ];
 
+/// The answers to a question by a pattern that repeats itself; the second is the one that folding would get wrong.
+const AGAIN: [&str; 3] = ["yes", "no where the minimum repeat is run", "no where it is not run"];
+
 #[derive(Default)]
 pub struct Counts {
     accepted: BTreeMap<Call, u64>,
     refused: BTreeMap<(Call, u32), u64>,
     pairs: BTreeMap<(Call, u32, u32), u64>,
+    again: BTreeMap<&'static str, u64>,
 }
 
 impl Counts {
@@ -48,6 +52,26 @@ impl Counts {
         *self.refused.entry((call, *first)).or_default() += 1;
         for other in others {
             *self.pairs.entry((call, *first, *other)).or_default() += 1;
+        }
+    }
+
+    /// A question by a pattern that repeats itself, answered; and whether a walk runs its minimum repeat.
+    pub fn add_again(&mut self, yes: bool, folded: bool) {
+        let answer = match (yes, folded) {
+            (true, _) => AGAIN[0],
+            (false, true) => AGAIN[1],
+            (false, false) => AGAIN[2],
+        };
+        *self.again.entry(answer).or_default() += 1;
+    }
+
+    fn report_again(&self, missing: &mut Vec<String>) {
+        for answer in AGAIN {
+            let count = self.again.get(answer).copied().unwrap_or(0);
+            println!("a pattern that repeats itself, {answer}: {count}");
+            if count == 0 {
+                missing.push(format!("a pattern that repeats itself: {answer} not reached"));
+            }
         }
     }
 
@@ -83,6 +107,7 @@ impl Counts {
                 .collect();
             println!("  pairs {}", of_call.join(" "));
         }
+        self.report_again(&mut missing);
         for (call, first, other, reason) in IMPOSSIBLE {
             println!("impossible: {call:?} {first}+{other}: {reason}");
         }

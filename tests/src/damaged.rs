@@ -57,6 +57,20 @@ fn memory(t: &mut Tester, layout: &Layout, edges: &[Edge], entries: &[u64]) -> M
     Memory { edges: slots, index, work: t.rng.words(work) }
 }
 
+/// Mostly right, often one that repeats itself, and sometimes too long or of labels that are none.
+fn any_pattern(t: &mut Tester, layout: &Layout) -> Vec<u8> {
+    let longest = layout.record[1] as usize;
+    match t.rng.below(10) {
+        0 => gen::bad_pattern(&mut t.rng, layout),
+        1 => gen::repeating_pattern(&mut t.rng, layout, longest + 1),
+        2..=5 if longest > 1 => {
+            let length = t.rng.from_to(2, longest);
+            gen::repeating_pattern(&mut t.rng, layout, length)
+        }
+        _ => gen::pattern(&mut t.rng, layout),
+    }
+}
+
 fn questions(t: &mut Tester, layout: &Layout, record: Record, memory: &Memory) {
     for _ in 0..6 {
         let mut start = gen::vertex(&mut t.rng, layout);
@@ -66,11 +80,10 @@ fn questions(t: &mut Tester, layout: &Layout, record: Record, memory: &Memory) {
             1 => destination = gen::no_vertex(&mut t.rng, layout.record[0]),
             _ => {}
         }
-        let mut pattern = gen::pattern(&mut t.rng, layout);
-        if t.rng.one_in(10) {
-            pattern = gen::bad_pattern(&mut t.rng, layout);
-        }
-        t.query(record, start, destination, &pattern, &memory.index);
+        let pattern = any_pattern(t, layout);
+        t.query(record, start, destination, &pattern, &mut memory.clone());
+        let mut dirty = gen::dirty(&mut t.rng, &memory.index);
+        t.query(record, start, destination, &pattern, &mut dirty);
         let allowed = t.rng.pick(&[0, 1, 2, 3, 4, 7, 1024, 1025, u32::MAX]);
         let check = Check { start, destination, pattern, allowed };
         t.search(record, &check, &mut memory.clone());

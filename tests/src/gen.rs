@@ -80,6 +80,24 @@ pub fn pattern(rng: &mut Rng, layout: &Layout) -> Vec<u8> {
     (0..length).map(|_| rng.pick(&layout.labels) as u8).collect()
 }
 
+/// So many labels of the layout, 2 or more, that repeat themselves: some first ones, written more than once.
+pub fn repeating_pattern(rng: &mut Rng, layout: &Layout, length: usize) -> Vec<u8> {
+    let fronts: Vec<usize> = (1..length).filter(|front| length % front == 0).collect();
+    let front: Vec<u8> = (0..rng.pick(&fronts)).map(|_| rng.pick(&layout.labels) as u8).collect();
+    front.repeat(length / front.len())
+}
+
+/// a a, a b a b, a a a, a a a a and a b a of the layout's labels, as far as k allows them.
+pub fn shapes(rng: &mut Rng, layout: &Layout) -> Vec<Vec<u8>> {
+    let a = rng.pick(&layout.labels);
+    let others: Vec<u32> = layout.labels.iter().copied().filter(|label| *label != a).collect();
+    let b = if others.is_empty() { a } else { rng.pick(&others) };
+    let (a, b) = (a as u8, b as u8);
+    let mut shapes = vec![vec![a, a], vec![a, b, a, b], vec![a, a, a], vec![a, a, a, a], vec![a, b, a]];
+    shapes.retain(|shape| shape.len() <= layout.record[1] as usize);
+    shapes
+}
+
 /// A pattern that 11 refuses.
 pub fn bad_pattern(rng: &mut Rng, layout: &Layout) -> Vec<u8> {
     let mut pattern = pattern(rng, layout);
@@ -139,6 +157,14 @@ pub fn any_index(rng: &mut Rng, layout: &Layout, count: usize) -> Vec<u64> {
         entries.insert(entry_number(rng.below(2) as u64, vertex(rng, layout), vertex(rng, layout), &pattern));
     }
     entries.into_iter().collect()
+}
+
+/// Edge and work memory as no call leaves them, which a question by a pattern written once does not look at: noise in
+/// few or too many slots, or no slots, and mostly too little work memory.
+pub fn dirty(rng: &mut Rng, index: &[u64]) -> Memory {
+    let (slots, any) = (rng.pick(&[0, 0, 1, 7, 1024, 1025, 2048]), rng.below(WORK));
+    let work = rng.pick(&[0, 0, 1, any, WORK - 1, WORK]);
+    Memory { index: index.to_vec(), ..noise(rng, slots, 0, work) }
 }
 
 /// Changes edge memory, mostly so that 3 refuses it.

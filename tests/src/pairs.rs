@@ -2,7 +2,7 @@
 //! now and then a third. The compared calls say which refusals did apply, and the counts at the end which
 //! pairs were reached.
 
-use crate::calls::{card_of, Check, Memory, EDGES};
+use crate::calls::{card_of, repeats_itself, Check, Memory, EDGES};
 use crate::compare::Tester;
 use crate::counts::{Call, ORDERS};
 use crate::gen::{self, Layout};
@@ -168,19 +168,45 @@ fn force_question(t: &mut Tester, forced: &[u32], layout: &Layout) -> Check {
     check
 }
 
-fn query(t: &mut Tester, forced: &[u32]) {
-    let (mut layout, edges) = layout_and_edges(t);
-    let check = force_question(t, forced, &layout);
-    let mut index = determined(&edges, layout.record[1]);
+/// Index memory for a query, for 12 damaged: the entries of the edges with both ends in the layout, or any.
+fn force_entries(t: &mut Tester, forced: &[u32], layout: &Layout, edges: &[Edge]) -> Vec<u64> {
+    let [vertices, longest] = layout.record;
+    let within: Vec<Edge> = edges.iter().copied().filter(|edge| edge.0.max(edge.2) < vertices).collect();
+    let mut index = determined(&within, longest);
     if t.rng.one_in(2) {
-        index = gen::any_index(&mut t.rng, &layout, 40);
+        index = gen::any_index(&mut t.rng, layout, 40);
     }
     index.push(0);
-    while forced.contains(&12) && is_index(&index, layout.record[0], layout.record[1]) {
+    while forced.contains(&12) && is_index(&index, vertices, longest) {
         gen::damage_index(&mut t.rng, layout.record, &mut index);
     }
+    index
+}
+
+/// For 3 and 4 the pattern repeats itself, with 11 too in more than k labels. A pattern written once gets dirty memory
+/// as well.
+fn query(t: &mut Tester, forced: &[u32]) {
+    let (mut layout, mut edges) = layout_and_edges(t);
+    let again = forced.contains(&3) || forced.contains(&4);
+    if again {
+        layout.record[1] = layout.record[1].max(2);
+    }
+    let longest = layout.record[1] as usize;
+    let slots = force_edges(t, forced, &mut layout, &mut edges, false);
+    let mut check = force_question(t, forced, &layout);
+    if again {
+        let any = t.rng.from_to(2, longest);
+        let length = if forced.contains(&11) { longest + t.rng.pick(&[1, 2, 3, 4, 300]) } else { any };
+        check.pattern = gen::repeating_pattern(&mut t.rng, &layout, length);
+    }
+    let index = force_entries(t, forced, &layout, &edges);
+    let work = if forced.contains(&4) { gen::short_work(&mut t.rng, 0) } else { gen::enough_work(&mut t.rng, 0) };
+    let mut memory = Memory { edges: slots, index, work: t.rng.words(work) };
+    if !repeats_itself(&check.pattern) && t.rng.one_in(2) {
+        memory = gen::dirty(&mut t.rng, &memory.index);
+    }
     force_record(t, forced, &mut layout);
-    t.query(layout.record, check.start, check.destination, &check.pattern, &index);
+    t.query(layout.record, check.start, check.destination, &check.pattern, &mut memory);
 }
 
 fn search(t: &mut Tester, forced: &[u32]) {

@@ -1,4 +1,4 @@
-//! Document 01's definitions, as plainly as it says them. Nothing here is fast or clever: which
+//! The definitions of documents 01 and 02, as plainly as they say them. Nothing here is fast or clever: which
 //! entries an index has is found by testing the stops of all walks, pattern by pattern.
 //!
 //! Words: a vertex is document 01's place, an edge its leg, a label its colour.
@@ -46,6 +46,12 @@ pub fn minimum_repeat<T: PartialEq + Clone>(pattern: &[T]) -> Vec<T> {
         |length: &usize| pattern.len() % length == 0 && pattern.chunks(*length).all(|part| part == &pattern[..*length]);
     let length = (1..=pattern.len()).find(gives).unwrap_or(0);
     pattern[..length].to_vec()
+}
+
+/// Document 02, Two: how many times the minimum repeat was written to give this pattern.
+pub fn times_written<T: PartialEq + Copy>(pattern: &[T]) -> usize {
+    let repeat = minimum_repeat(pattern);
+    (1..=pattern.len()).find(|times| repeat.repeat(*times) == pattern).unwrap_or(0)
 }
 
 pub fn is_own_repeat<T: PartialEq + Clone>(pattern: &[T]) -> bool {
@@ -136,6 +142,26 @@ pub fn runs(edges: &[Edge], start: u32, destination: u32, pattern: &[u32]) -> bo
     }
 }
 
+/// Where the walks end that start at one of these vertices and spell the pattern once.
+fn spelled_once(edges: &[Edge], starts: &BTreeSet<u32>, pattern: &[u32]) -> BTreeSet<u32> {
+    pattern.iter().fold(starts.clone(), |at, label| {
+        edges.iter().filter(|edge| at.contains(&edge.0) && edge.1 == *label).map(|edge| edge.2).collect()
+    })
+}
+
+/// Where the walks from `start` end that spell the pattern itself one or more whole times: once from `start`, then once
+/// more from wherever one ended, until no vertex is new.
+pub fn spelled_ends(edges: &[Edge], start: u32, pattern: &[u32]) -> BTreeSet<u32> {
+    let mut ends = spelled_once(edges, &BTreeSet::from([start]), pattern);
+    loop {
+        let before = ends.len();
+        ends.extend(spelled_once(edges, &ends, pattern));
+        if ends.len() == before {
+            return ends;
+        }
+    }
+}
+
 /// side × 2^32 + owner × 2^24 + hub × 2^16 + code; the code's hexadecimal digits are the labels.
 pub fn entry_number(side: u64, owner: u32, hub: u32, pattern: &[u32]) -> u64 {
     let code = pattern.iter().fold(0, |code, label| code * 16 + *label as u64);
@@ -208,7 +234,8 @@ pub fn is_index(memory: &[u64], vertices: u32, longest: u32) -> bool {
     rising(filled) && rest.iter().all(|slot| *slot == 0) && filled.iter().all(entry)
 }
 
-/// The question: the out list of s has (t, L), or the in list of t has (s, L), or some hub stands with L in both.
+/// The question by a pattern written once: the out list of s has (t, L), or the in list of t has (s, L), or some hub
+/// stands with L in both.
 pub fn answer(index: &[u64], start: u32, destination: u32, pattern: &[u32]) -> bool {
     let list = |side: u64, owner: u32| -> BTreeSet<u64> {
         let of_list = |slot: &&u64| **slot != 0 && **slot >> 24 == (side << 8) + owner as u64;
@@ -228,7 +255,7 @@ pub enum Found {
     Spent(u32),
 }
 
-/// The plain check: level after level, as many as are allowed.
+/// The plain check of this pattern, which is not folded: level after level, as many as are allowed.
 pub fn levels(edges: &[Edge], start: u32, destination: u32, pattern: &[u32], allowed: u32) -> Found {
     let mut seen = BTreeSet::new(); // every pair in levels 1 to `built`
     let mut level = BTreeSet::from([(start, 0)]);

@@ -1,5 +1,5 @@
-//! The minimum repeat (document 02, One): by the table and computed, of every pattern and of what is none; and the table
-//! that the program `repeat_table` prints.
+//! The minimum repeat and how many times it was written (document 02, One and Two): by the table and computed, of every
+//! pattern and of what is none; and the table that the program `repeat_table` prints.
 
 use crate::compare::Tester;
 use crate::reference::*;
@@ -10,8 +10,8 @@ pub fn run(t: &mut Tester, program: &str) {
     let patterns: Vec<Vec<u8>> =
         table_patterns().iter().map(|pattern| pattern.iter().map(|label| *label as u8).collect()).collect();
     for pattern in &patterns {
-        let length = t.minimum_repeat(pattern);
-        t.expect("a pattern has a minimum repeat", length > 0, true);
+        let (length, times) = t.minimum_repeat(pattern);
+        t.expect("the minimum repeat, written so many times, is as long", length * times, pattern.len() as u32);
     }
     other_labels(t, &patterns);
     other_lengths(t, &patterns);
@@ -25,8 +25,8 @@ fn other_labels(t: &mut Tester, patterns: &[Vec<u8>]) {
             for label in [0, 9, 16 + pattern[i], 255] {
                 let mut other = pattern.clone();
                 other[i] = label;
-                let length = t.minimum_repeat(&other);
-                t.expect("a label that is none", length, 0);
+                let reply = t.minimum_repeat(&other);
+                t.expect("a label that is none", reply, (0, 0));
             }
         }
     }
@@ -39,8 +39,8 @@ fn other_lengths(t: &mut Tester, patterns: &[Vec<u8>]) {
         let turns: Vec<u8> = front.iter().cycle().take(length).copied().collect();
         let any: Vec<u8> = (0..length).map(|_| t.rng.from_to(1, 8) as u8).collect();
         for pattern in [vec![1; length], turns, any] {
-            let length = t.minimum_repeat(&pattern);
-            t.expect("too few or too many labels", length, 0);
+            let reply = t.minimum_repeat(&pattern);
+            t.expect("too few or too many labels", reply, (0, 0));
         }
     }
 }

@@ -1,9 +1,12 @@
-//! The second implementation held to facts that document 01 and document 004 print.
+//! The second implementation held to facts that documents 01, 02 and 004 print.
 
+use crate::calls::keyed;
+use crate::compare::YES;
 use crate::reference::*;
-use crate::trials::{table_2_slots, CARD_A, FIGURE_2, LAYOUT_B, SLOTS_A};
+use crate::trials::{table_2_slots, CARD_A, FIGURE_2, KEYED_TWICE, LAYOUT_B, SLOTS_A};
 
 pub fn run() {
+    keyed_twice();
     let a: Vec<Edge> = CARD_A[9..].chunks(3).map(|b| (b[0] as u32, b[1] as u32, b[2] as u32)).collect();
     assert_eq!(determined(&a, 2), SLOTS_A);
     assert!(runs(&a, 0, 2, &[1]) && runs(&a, 0, 0, &[1, 2]));
@@ -23,10 +26,24 @@ pub fn run() {
 
     assert_eq!(minimum_repeat(&[1, 2, 1, 2]), [1, 2]);
     assert_eq!(minimum_repeat(&[1, 2, 1]), [1, 2, 1]);
+    assert_eq!((times_written(&[1, 2, 1, 2]), times_written(&[1, 2, 1]), times_written(&[1, 1, 1])), (2, 1, 3));
     // "each of the 4,680 patterns of one to four colours"
     let table = table_patterns();
     assert_eq!(table.len(), 4680);
     assert!(table[7] == [8] && table[8] == [1, 1] && table[71] == [8, 8] && table[72] == [1, 1, 1]);
     // 8 + 56 + 504 + 4,032 patterns are their own minimum repeat.
     assert_eq!(patterns(&[1, 2, 3, 4, 5, 6, 7, 8], 4).len(), 4600);
+}
+
+/// Both ways to find the walks that run a pattern as keyed, and the levels.
+fn keyed_twice() {
+    for (_, edges, start, destination, pattern, (answer, count)) in KEYED_TWICE {
+        let pattern = keyed(pattern);
+        assert_eq!(spelled_ends(edges, start, &pattern).contains(&destination), answer == YES);
+        assert_eq!(runs(edges, start, destination, &pattern), answer == YES);
+        let found = if answer == YES { Found::Yes(count) } else { Found::No(count) };
+        assert_eq!(levels(edges, start, destination, &pattern, 1025), found);
+        assert_eq!(levels(edges, start, destination, &pattern, count), found);
+        assert_eq!(levels(edges, start, destination, &pattern, count - 1), Found::Spent(count - 1));
+    }
 }

@@ -1,4 +1,4 @@
-//! Document 01's trial runs, with its own expectations, and Table II of document 004.
+//! The trial runs of documents 01 and 02, with their own expectations, and Table II of document 004.
 
 use crate::calls::{Check, Memory, Record};
 use crate::compare::{Tester, SPENT, YES};
@@ -34,6 +34,38 @@ pub const TABLE_2: [(u64, u32, u32, &[u32]); 26] = [
     (1, 6, 1, &[2, 1]), (1, 6, 3, &[1]), (1, 6, 3, &[2, 3]), (1, 6, 4, &[3]),
 ];
 
+/// Vertices and k, edges, start, destination, pattern, and the plain check's reply and levels.
+pub type KeyedTwice = (Record, &'static [Edge], u32, u32, &'static [u8], (u32, u32));
+
+const PATH: &[Edge] = &[(0, 1, 1), (1, 1, 2), (2, 1, 3), (3, 1, 4)];
+const TRIANGLE: &[Edge] = &[(0, 1, 1), (1, 1, 2), (2, 1, 0)];
+
+/// Document 02, Two. Behind each is what its levels hold from level 1 on: (vertex, labels used).
+pub const KEYED_TWICE: [KeyedTwice; 22] = [
+    ([2, 2], &[(0, 1, 1)], 0, 1, &[1], (YES, 1)),                     // (1, 0)
+    ([2, 2], &[(0, 1, 1)], 0, 1, &[1, 1], (0, 2)),                    // (1, 1); none
+    ([3, 2], &[(0, 1, 1), (1, 1, 2)], 0, 2, &[1], (YES, 2)),          // (1, 0); (2, 0)
+    ([3, 2], &[(0, 1, 1), (1, 1, 2)], 0, 2, &[1, 1], (YES, 2)),       // (1, 1); (2, 0)
+    ([3, 2], &[(0, 1, 1), (1, 1, 2)], 0, 1, &[1, 1], (0, 3)),         // (1, 1); (2, 0); none
+    ([3, 4], &[(0, 1, 1), (1, 1, 2)], 0, 2, &[1, 1, 1, 1], (0, 3)),   // (1, 1); (2, 2); none
+    ([5, 4], PATH, 0, 4, &[1, 1, 1, 1], (YES, 4)),                    // (1, 1); (2, 2); (3, 3); (4, 0)
+    ([5, 4], PATH, 0, 4, &[1, 1], (YES, 4)),                          // (1, 1); (2, 0); (3, 1); (4, 0)
+    ([5, 4], PATH, 0, 3, &[1, 1], (0, 5)),                            // the same, then none
+    ([1, 2], &[(0, 1, 0)], 0, 0, &[1], (YES, 1)),                     // (0, 0)
+    ([1, 2], &[(0, 1, 0)], 0, 0, &[1, 1], (YES, 2)),                  // (0, 1); (0, 0)
+    ([1, 4], &[(0, 1, 0)], 0, 0, &[1, 1, 1, 1], (YES, 4)),            // (0, 1); (0, 2); (0, 3); (0, 0)
+    ([3, 4], TRIANGLE, 0, 1, &[1], (YES, 1)),                         // (1, 0)
+    ([3, 4], TRIANGLE, 0, 1, &[1, 1], (YES, 4)),                      // (1, 1); (2, 0); (0, 1); (1, 0)
+    ([3, 4], TRIANGLE, 0, 1, &[1, 1, 1], (0, 4)),                     // (1, 1); (2, 2); (0, 0); none that is new
+    ([3, 4], TRIANGLE, 0, 0, &[1, 1, 1], (YES, 3)),                   // (1, 1); (2, 2); (0, 0)
+    ([3, 4], TRIANGLE, 0, 1, &[1, 1, 1, 1], (YES, 4)),                // (1, 1); (2, 2); (0, 3); (1, 0)
+    ([3, 4], &[(0, 1, 1), (1, 2, 2)], 0, 2, &[1, 2], (YES, 2)),       // (1, 1); (2, 0)
+    ([3, 4], &[(0, 1, 1), (1, 2, 2)], 0, 2, &[1, 2, 1, 2], (0, 3)),   // (1, 1); (2, 2); none
+    ([2, 4], &[(0, 1, 1), (1, 2, 0)], 0, 0, &[1, 2, 1, 2], (YES, 4)), // (1, 1); (0, 2); (1, 3); (0, 0)
+    ([2, 4], &[(0, 1, 1), (1, 2, 0)], 0, 1, &[1, 2, 1, 2], (0, 5)),   // the same, then none that is new
+    ([2, 4], &[(0, 1, 1), (1, 2, 0)], 0, 1, &[1, 2, 1], (YES, 3)),    // (1, 1); (0, 2); (1, 0)
+];
+
 /// Table II as index memory: vertices numbered from 0, rising.
 pub fn table_2_slots() -> Vec<u64> {
     let mut slots: Vec<u64> =
@@ -48,6 +80,7 @@ pub fn run(t: &mut Tester) {
     layout_b(t);
     limits(t);
     table_2(t);
+    keyed_twice(t);
 }
 
 fn memory(t: &mut Tester, edges: usize, index: usize) -> Memory {
@@ -63,46 +96,8 @@ fn layout_a(t: &mut Tester) {
     t.expect("the slots of A", &a.index[..5], &SLOTS_A[..]);
     t.expect("the rest of index memory", a.index[5..].iter().all(|slot| *slot == 0), true);
 
-    let queries: [(u32, u32, &[u8], u32); 11] = [
-        (0, 2, &[1], YES),
-        (2, 0, &[1], 0),
-        (0, 0, &[1, 2], YES),
-        (0, 0, &[1], 0),
-        (0, 0, &[2, 1], 0),
-        (0, 2, &[1, 1], YES), // asked as 1
-        (2, 2, &[1], 0),
-        (0, 3, &[1], 10),
-        (3, 0, &[1], 10),
-        (0, 0, &[1, 2, 1], 11),
-        (0, 0, &[], 11),
-    ];
-    for (start, destination, pattern, expected) in queries {
-        let reply = t.query(record, start, destination, pattern, &a.index);
-        t.expect("a query in A", reply, expected);
-    }
-
-    let checks: [(u32, u32, &[u8], u32, (u32, u32)); 8] = [
-        (0, 2, &[1], 0, (SPENT, 0)),
-        (0, 2, &[1], 1, (SPENT, 1)),
-        (0, 2, &[1], 2, (YES, 2)),
-        (2, 0, &[1], 1, (0, 1)),
-        (0, 2, &[1, 1], 2, (YES, 2)), // asked as 1
-        (0, 3, &[1], 2, (10, 0)),
-        (2, 2, &[1], 2, (0, 1)),
-        (0, 0, &[1, 2, 1], 2, (11, 0)),
-    ];
-    for (start, destination, pattern, allowed, expected) in checks {
-        a.work = t.rng.words(4096);
-        let check = Check { start, destination, pattern: pattern.to_vec(), allowed };
-        let reply = t.search(record, &check, &mut a);
-        t.expect("a plain check in A", reply, expected);
-        let zero = a.work.iter().all(|word| *word == 0);
-        t.expect(
-            "work memory zero after a plain check, unless it is refused",
-            zero,
-            expected.1 != 0 || expected.0 == SPENT,
-        );
-    }
+    queries_in_a(t, record, &mut a);
+    checks_in_a(t, record, &mut a);
 
     a.work = t.rng.words(5120);
     let reply = t.change(true, record, (0, 1, 1), &mut a);
@@ -120,11 +115,76 @@ fn layout_a(t: &mut Tester) {
     t.expect("card A written", reply, (0, 18));
     t.expect("card A's bytes", &output[..18], &CARD_A[..]);
 
-    for (pattern, length) in
-        [(&[1u8, 2, 1, 2][..], 2), (&[1, 2, 1], 3), (&[1, 1], 1), (&[1, 2, 1, 1], 4), (&[7, 7, 7, 7], 1)]
-    {
+    repeats(t);
+}
+
+fn queries_in_a(t: &mut Tester, record: Record, a: &mut Memory) {
+    let queries: [(u32, u32, &[u8], u32); 13] = [
+        (0, 2, &[1], YES),
+        (2, 0, &[1], 0),
+        (0, 0, &[1, 2], YES),
+        (0, 0, &[1], 0),
+        (0, 0, &[2, 1], 0),
+        (0, 2, &[1, 1], YES), // 0-1-1, 1-1-2
+        (0, 1, &[1], YES),
+        (0, 1, &[1, 1], 0), // asked as 1 before document 02
+        (2, 2, &[1], 0),
+        (0, 3, &[1], 10),
+        (3, 0, &[1, 1], 10),
+        (0, 0, &[1, 2, 1], 11),
+        (0, 0, &[], 11),
+    ];
+    for (start, destination, pattern, expected) in queries {
+        a.work = t.rng.words(4096);
+        let found = a.work.clone();
+        let reply = t.query(record, start, destination, pattern, a);
+        t.expect("a query in A", reply, expected);
+        let left = if pattern == [1, 1] && expected != 10 { vec![0; 4096] } else { found };
+        t.expect("work memory zero after an answer by 1,1, else as found", a.work == left, true);
+    }
+}
+
+fn checks_in_a(t: &mut Tester, record: Record, a: &mut Memory) {
+    let checks: [(u32, u32, &[u8], u32, (u32, u32)); 9] = [
+        (0, 2, &[1], 0, (SPENT, 0)),
+        (0, 2, &[1], 1, (SPENT, 1)),
+        (0, 2, &[1], 2, (YES, 2)),
+        (2, 0, &[1], 1, (0, 1)),
+        (0, 2, &[1, 1], 2, (YES, 2)), // levels (1, 1); (2, 0)
+        (0, 1, &[1, 1], 3, (0, 3)),   // levels (1, 1); (2, 0); none
+        (0, 3, &[1], 2, (10, 0)),
+        (2, 2, &[1], 2, (0, 1)),
+        (0, 0, &[1, 2, 1], 2, (11, 0)),
+    ];
+    for (start, destination, pattern, allowed, expected) in checks {
+        a.work = t.rng.words(4096);
+        let check = Check { start, destination, pattern: pattern.to_vec(), allowed };
+        let reply = t.search(record, &check, a);
+        t.expect("a plain check in A", reply, expected);
+        let zero = a.work.iter().all(|word| *word == 0);
+        t.expect(
+            "work memory zero after a plain check, unless it is refused",
+            zero,
+            expected.1 != 0 || expected.0 == SPENT,
+        );
+    }
+}
+
+/// Minimum repeats, their lengths and how many times they were written.
+fn repeats(t: &mut Tester) {
+    let patterns: [(&[u8], (u32, u32)); 8] = [
+        (&[1, 2, 1, 2], (2, 2)),
+        (&[1, 2, 1], (3, 1)),
+        (&[1], (1, 1)),
+        (&[1, 1], (1, 2)),
+        (&[1, 1, 1], (1, 3)),
+        (&[1, 2, 1, 1], (4, 1)),
+        (&[7, 7, 7, 7], (1, 4)),
+        (&[1, 2, 2, 1], (4, 1)),
+    ];
+    for (pattern, expected) in patterns {
         let reply = t.minimum_repeat(pattern);
-        t.expect("a minimum repeat", reply, length);
+        t.expect("a minimum repeat", reply, expected);
     }
 }
 
@@ -161,7 +221,8 @@ fn limits(t: &mut Tester) {
             let reply = t.change(true, record, (255, 8, 255), &mut memory);
             t.expect("an insertion at the limits", reply, 0);
             t.expect("its slots", &memory.index[..], &[0xFFFF_0008, 0, 0, 0]);
-            let reply = t.query(record, 255, 255, &[8, 8, 8, 8], &memory.index);
+            memory.work = t.rng.words(4096);
+            let reply = t.query(record, 255, 255, &[8, 8, 8, 8], &mut memory);
             t.expect("a query at the limits", reply, YES);
         }
     }
@@ -176,6 +237,30 @@ fn table_2(t: &mut Tester) {
         t.expect("the graph of Fig. 2", reply, expected);
         if expected == 0 {
             t.expect("Table II", &memory.index, &table_2_slots());
+        }
+    }
+}
+
+/// Laid edge by edge, asked, and checked plainly with every allowance up to one more than the levels.
+fn keyed_twice(t: &mut Tester) {
+    for (record, edges, start, destination, pattern, (answer, levels)) in KEYED_TWICE {
+        let mut memory = memory(t, edges.len(), 40);
+        let reply = t.open(record, &mut memory);
+        t.expect("an opening", reply, 0);
+        for edge in edges {
+            memory.work = t.rng.words(4136);
+            let reply = t.change(true, record, *edge, &mut memory);
+            t.expect("an insertion", reply, 0);
+        }
+        memory.work = t.rng.words(4096);
+        let reply = t.query(record, start, destination, pattern, &mut memory);
+        t.expect("a query by the pattern as keyed", reply, answer);
+        for allowed in 0..=levels + 1 {
+            memory.work = t.rng.words(4096);
+            let check = Check { start, destination, pattern: pattern.to_vec(), allowed };
+            let reply = t.search(record, &check, &mut memory);
+            let expected = if allowed < levels { (SPENT, allowed) } else { (answer, levels) };
+            t.expect("a plain check of the pattern as keyed", reply, expected);
         }
     }
 }

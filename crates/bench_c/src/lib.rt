@@ -52,11 +52,25 @@ pub extern "C" fn bench_query(
     start: u32,
     destination: u32,
     pattern: &[u8],
+    edges: &[u32],
     index: &[u64],
+    work: &mut [u64],
 ) -> u32
-    ensures { λ r. ⌜ r ≡ answerNumber (queryCall (record { vertices = vertices; longest = longest }) start destination (now (pattern .entry)) (lent [] (now (index .entry)) []) .reply) ⌝ }
+    ensures { λ r. ⌜
+        r ≡ answerNumber (queryCall (record { vertices = vertices; longest = longest }) start destination (now (pattern .entry))
+        (lent (now (edges .entry)) (now (index .entry)) (now (work .entry))) .reply)
+        ⌝ }
 {
-    let reply = query::query(vertices, longest, start, destination, pattern, index);
+    let reply = query::query(
+        vertices,
+        longest,
+        start,
+        destination,
+        pattern,
+        edges,
+        index,
+        work,
+    );
     match reply {
         QueryReply::No => 0,
         QueryReply::Yes => 1,

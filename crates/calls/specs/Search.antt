@@ -7,7 +7,7 @@ use Rattle.model.specs.Limits.{leastWork}
 use Rattle.model.specs.Edges.{standing}
 use Rattle.model.specs.States.{Reply, Refused}
 use Rattle.model.specs.Computed.Edges.{edgeMemory?}
-use Rattle.model.specs.Computed.Patterns.{keyed?, minRepeat}
+use Rattle.model.specs.Computed.Patterns.{keyed?}
 use Rattle.model.specs.Computed.Levels.{levelReply}
 use Rattle.calls.specs.Checks.{vertices?, longest?, ends?, firstRefusal}
 use Rattle.calls.specs.Call.{Header, graphOf, Memory, cleared, Outcome, refusing}
@@ -27,11 +27,12 @@ module _ (h : Header) (start destination : ℕ) (pattern : List ℕ) where
       ∷ []
       )
 
-  -- "a number of levels is allowed with each check"; "Accepted calls that use work memory leave it zero as well."
+  -- "a number of levels is allowed with each check"; "Accepted calls that use work memory leave it zero as well." The pattern is searched as keyed:
+  -- "The plain check no longer folds." (document 02, Two)
   unfoldable pub searchCall : (limit : ℕ) → Memory → Outcome Reply
   searchCall limit m =
       refusing Refused m (searchRefusal m)
       (record {
-        reply = levelReply (graphOf h (standing (m .edges))) (minRepeat pattern) start destination limit;
+        reply = levelReply (graphOf h (standing (m .edges))) pattern start destination limit;
         memory = cleared m;
       })

@@ -14,7 +14,7 @@ use Rattle.model.specs.Computed.Edges.{edge?, label?, edgeMemory?, insertEdge, 
 use Rattle.model.specs.Computed.Entries.{determined}
 use Rattle.model.proofs.Tests.{Tests, test-true, test-false, test-yields, test-fails, test-map, test-agree, test-not, test-and, test-eq, test-le, test-lt, test-mem}
 use Rattle.model.proofs.Lists.{keep-in, keep-out}
-use Rattle.model.proofs.Edges.{edge-fields, test-edge}
+use Rattle.model.proofs.Edges.{edge-named}
 use Rattle.model.proofs.Insertion.{length-insert, member-insert, rising-insert, length-remove, member-remove, rising-remove}
 use Rattle.model.proofs.Memory.{edge-least, standing-filled, filled-memory}
 use Rattle.calls.specs.Checks.{ends?, Check, firstRefusal}
@@ -63,8 +63,7 @@ module _ {slots room : ℕ} {b : Book} (f : Fine slots room b) (from label to : 
   is-edge e k =
       let (p, q) = test-yields (test-ends (b .vertices) from to) e in
       let (u, v) = test-yields (test-and (test-le 1 label) (test-le label 8)) k in
-      let (i, j, l) = edge-fields from label to (omega (arith, v)) (omega (arith, q, small)) in
-      let valid = test-true (test-edge (b .vertices) x) (record { from = rw i p; label-low = rw j u; label-high = rw j v; to = rw l q }) in
+      let valid = edge-named (b .vertices) from label to small p q u v in
       record { valid = valid; below = edge-below small valid }
 
   -- "1 2 3 4 5 6", then what is left

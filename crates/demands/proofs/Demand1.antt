@@ -1,5 +1,5 @@
 -- Demand 1 holds.
-use mathlib.Core.Path.{_≡_, refl, sym, ap}
+use mathlib.Core.Path.{_≡_, refl, sym, ap, _∙_}
 use mathlib.Core.Logic.{_≢_}
 use mathlib.Core.Bool.{Bool, true, false, not, _&&_}
 use mathlib.Core.List.{List, [], _∷_, _++_}
@@ -9,18 +9,22 @@ use lib.ListN.{length, drop}
 use lib.Seq.{drop-append-seam}
 use lib.Dec.{T, eqb}
 use Rattle.model.specs.Edges.{Graph, standing}
+use Rattle.model.specs.Query.{Answered}
 use Rattle.model.specs.States.{Reply, Refused}
-use Rattle.model.specs.Computed.Patterns.{minRepeat}
+use Rattle.model.specs.Computed.Patterns.{once?}
+use Rattle.model.specs.Computed.Levels.{runs?}
+use Rattle.model.specs.Computed.Query.{answers?}
 use Rattle.model.specs.Levels.{Told, found, ended, stopped}
-use Rattle.model.proofs.Tests.{test-and, test-not, test-eq, test-T}
+use Rattle.model.proofs.Tests.{test-and, test-not, test-eq, test-T, both-ways}
 use Rattle.model.proofs.Search.{told}
 use Rattle.calls.specs.Checks.{Check, firstRefusal}
 use Rattle.calls.specs.Call.{Header, graphOf, Memory, cleared, Outcome, refusing, Returned, Wrote, Length, Refused as NotWritten}
 use Rattle.calls.specs.Search.{searchRefusal, searchCall}
-use Rattle.calls.specs.Query.{queryRefusal, queryCall}
+use Rattle.calls.specs.Query.{saying, queryRefusal, queryCall}
 use Rattle.calls.specs.Change.{refusedWith, fits?, settle, openRefusal, openCall, insertRefusal, insertCall, removeRefusal, removeCall}
 use Rattle.calls.specs.Card.{readRefusal, readCall, cardOf, writeRefusal, writeCall}
-use Rattle.demands.specs.Demand1.{Keeps, ChangeKeeps, searchNumber, writeNumber, Demand1}
+use Rattle.demands.specs.Demand1.{Keeps, ChangeKeeps, searchNumber, queryNumber, writeNumber, Leaves, Demand1}
+use Rattle.demands.proofs.Asking.{number-refuses, once-is, repeats-is}
 
 -- an accepted call refuses nothing
 accepted-keeps : {R : Type 0} {m : Memory} {c : Outcome R} {n : ℕ} → n ≡ 0 → Keeps m c n
@@ -62,13 +66,43 @@ opens-keeps h m e =
 
 -- ---- calls that change no record
 
-query-keeps : (h : Header) (start destination : ℕ) (pattern : List ℕ) (m : Memory) → queryCall h start destination pattern m .memory ≡ m
+yes-or-no : (b : Bool) → queryNumber (saying b) ≡ 0
+yes-or-no true = refl
+yes-or-no false = refl
+
+query-accepted : (h : Header) (start destination : ℕ) (pattern : List ℕ) (m : Memory) → queryRefusal h start destination pattern m ≡ 0
+    → queryNumber (queryCall h start destination pattern m .reply) ≡ 0
 unfolding queryCall
+query-accepted h start destination pattern m e =
+    rw e (both-ways (once? pattern)
+    (λ q. rw q (yes-or-no (answers? (h .vertices) (m .index) pattern start destination)))
+    (λ q. rw q (yes-or-no (runs? (graphOf h (standing (m .edges))) pattern start destination))))
+
+query-keeps : (h : Header) (start destination : ℕ) (pattern : List ℕ) (m : Memory) →
+    let c = queryCall h start destination pattern m in
+    Keeps m c (queryNumber (c .reply)) × (queryNumber (c .reply) ≡ 0 → Leaves pattern m (c .memory))
 query-keeps h start destination pattern m = go (queryRefusal h start destination pattern m) refl
   where
-    go : (n : ℕ) → queryRefusal h start destination pattern m ≡ n → queryCall h start destination pattern m .memory ≡ m
-    go zero e = rw e refl
-    go (suc n) e = rw e refl
+    c : Outcome Answered
+    c = queryCall h start destination pattern m
+
+    not-13 : queryRefusal h start destination pattern m ≢ 13
+    not-13 = unfold queryRefusal in other-number _ tt
+
+    go : (n : ℕ) → queryRefusal h start destination pattern m ≡ n → Keeps m c (queryNumber (c .reply)) × (queryNumber (c .reply) ≡ 0 → Leaves pattern m (c .memory))
+    go zero e = (
+      accepted-keeps (query-accepted h start destination pattern m e),
+      λ _. record {
+        once = λ own. rw (once-is h start destination pattern m e own) refl;
+        repeating = λ more. rw (repeats-is h start destination pattern m e more) refl;
+      },
+    )
+    go (suc n) e =
+        let told = number-refuses h start destination pattern m e in
+        rw told (
+          record { refused = λ _ _. unfold queryCall in rw e refl; thirteen = λ q. absurd (not-13 (e ∙ q)) },
+          λ q. absurd (omega (arith, q)),
+        )
 
 told-none : {g : Graph} {l : List ℕ} {s t limit : ℕ} {r : Reply} → Told g l s t limit r → searchNumber r ≡ 0
 told-none (found c h q m) = refl
@@ -110,6 +144,6 @@ demand1 =
       reads = λ bytes m. with-keeps _ (other-number _ tt) _ m _ (settle-keeps _ _ _ m);
       queries = query-keeps;
       searches = λ h start destination pattern limit m.
-          searched-keeps _ (other-number _ tt) _ (told-none (told (graphOf h (standing (m .edges))) (minRepeat pattern) start destination limit)) m;
+          searched-keeps _ (other-number _ tt) _ (told-none (told (graphOf h (standing (m .edges))) pattern start destination limit)) m;
       writes = λ h m. written-keeps _ (other-number _ tt) (cardOf h (standing (m .edges))) m;
     }

@@ -1,21 +1,23 @@
 -- Demand 3 holds.
 use mathlib.Core.Path.{_≡_, refl, ap, ap₂, _∙_}
-use mathlib.Core.Bool.{Bool}
+use mathlib.Core.Bool.{Bool, true}
 use mathlib.Core.List.{List, [], _∷_, map}
 use Prim.Native.Nat.{ℕ, zero, suc}
 use lib.Dec.{T}
 use lib.ListN.{length}
 use Rattle.model.specs.Lists.{_∈_, keep, filled}
+use Rattle.model.specs.Query.{Answered}
 use Rattle.model.specs.Computed.Edges.{Small}
+use Rattle.model.specs.Computed.Patterns.{once?}
 use Rattle.model.specs.Computed.Order.{counted}
 use Rattle.model.specs.Computed.Entries.{determined}
 use Rattle.model.proofs.Tests.{test-true}
-use Rattle.model.proofs.Patterns.{test-keyed}
+use Rattle.model.proofs.Patterns.{test-keyed, test-once}
 use Rattle.model.proofs.Order.{counted-names}
-use Rattle.calls.specs.Call.{lent}
-use Rattle.calls.specs.Query.{queryRefusal, queryCall}
+use Rattle.calls.specs.Call.{lent, Outcome}
+use Rattle.calls.specs.Query.{saying, queryRefusal}
 use Rattle.calls.proofs.Checks.{none, pass, first-is, bounds-pass, test-ends}
-use Rattle.demands.specs.Ledger.{Given, opening, insertion, removal, card, Fed, Book, bookEntries, ruling, turnWith, turn, LedgerReply, ledger}
+use Rattle.demands.specs.Ledger.{Given, opening, insertion, removal, card, Fed, Book, rising, bookEntries, ruling, turnWith, turn, LedgerReply, ledger}
 use Rattle.demands.specs.Run.Station.{Call, Station, changeOn, change, run, fedBy, fedAll}
 use Rattle.demands.specs.Run.Demand3.{Demand3Holds}
 use Rattle.demands.specs.Terms.{blank, Begins, standingGraph, Missed}
@@ -24,7 +26,9 @@ use Rattle.demands.proofs.Steps.{recordOf, stationOf, Fine, Matches}
 use Rattle.demands.proofs.Changes.{insert-matches, remove-matches}
 use Rattle.demands.proofs.Openings.{open-begins, open-first, open-matches}
 use Rattle.demands.proofs.Cards.{read-begins, read-first, read-matches}
-use Rattle.demands.proofs.Right.{right}
+use Rattle.demands.proofs.Rising.{rising-rises, rising-out}
+use Rattle.demands.proofs.Asking.{within, once-is}
+use Rattle.demands.proofs.Right.{Standable, right}
 
 -- ---- one call after another
 
@@ -99,7 +103,7 @@ module _ {slots room : ℕ} {b : Book} (f : Fine slots room b) where
 
   missed : (keeps : ℕ → Bool) (e : ℕ) → e ∈ bookEntries b → ¬ T (keeps e)
       → Missed (stationOf slots room b .header) b (filled room (keep keeps (bookEntries b)))
-  unfolding determined
+  unfolding determined queryRefusal
   missed keeps e m gone =
       let t = struck-answer (standingGraph b) (counted (standingGraph b)) small room (counted-names (standingGraph b)) keeps e m gone in
       record {
@@ -108,15 +112,23 @@ module _ {slots room : ℕ} {b : Book} (f : Fine slots room b) where
         pattern = t .pattern;
         own = t .asked .pattern;
         runs = t .runs;
-        answered = unfold queryCall in rw (passes t, t .no-after) refl;
+        answered = λ edges work.
+            ap (λ (c : Outcome Answered). c .reply) (once-is (recordOf b) _ _ _ _ (passes t edges work) (t .asked .pattern .own)) ∙ ap saying (t .no-after);
       }
     where
-      passes : {whole struck : List ℕ} (t : Turned (standingGraph b) whole struck) → queryRefusal (recordOf b) (t .start) (t .destination) (t .pattern) (lent [] struck []) ≡ 0
-      passes t =
-          unfold queryRefusal in
+      -- its pattern is its own minimum repeat, so 3 and 4 pass whatever is lent
+      passes : {whole struck : List ℕ} (t : Turned (standingGraph b) whole struck) (edges work : List ℕ)
+          → queryRefusal (recordOf b) (t .start) (t .destination) (t .pattern) (lent edges struck work) ≡ 0
+      passes t edges work =
+          let p = t .asked .pattern in
+          let once : once? (t .pattern) ≡ true = test-true (test-once (t .pattern) (within (f .bounds) (p .keyed))) (p .own) in
           first-is (bounds-pass (f .bounds)
           (pass (test-true (test-ends (b .vertices) (t .start) (t .destination)) (t .asked .from, t .asked .to))
-          (pass (test-true (test-keyed (b .longest) (t .pattern)) (t .asked .pattern .keyed)) (pass (t .passes) none))))
+          (pass (test-true (test-keyed (b .longest) (t .pattern)) (p .keyed)) (pass (t .passes) (pass (rw once refl) (pass (rw once refl) none))))))
+
+-- the ledger's edges can stand in edge memory
+can-stand : {slots room : ℕ} {b : Book} → Fine slots room b → Standable (b .vertices) slots (rising (b .edges))
+can-stand {b = b} f = record { few = f .few; fits = f .fits; rises = rising-rises (b .edges); valid = λ x k. f .valid x (rising-out (b .edges) k) }
 
 -- every such list
 pub agreed : (s : Station) (first : Call) (more : List Call) → Begins (first .given)
@@ -136,5 +148,5 @@ demand3 s first more begins e =
       edges = ap (λ (t : Station). t .edges) (a .station);
       index = ap (λ (t : Station). t .index) (a .station);
       needed = rw (a .station) (missed (a .fine));
-      right = rw (a .station) (right (standingGraph _) (a .fine .bounds) (length (s .index)));
+      right = rw (a .station) (right (standingGraph _) (a .fine .bounds) (length (s .edges)) (length (s .index)) (can-stand (a .fine)));
     }

@@ -1,6 +1,5 @@
 -- Index memory that holds the entries a graph determines: it passes check 12 and answers rightly, and no entry can be struck out of it.
 use mathlib.Core.Path.{_≡_, refl, sym, _∙_}
-use mathlib.Core.Logic.{_↔_}
 use mathlib.Core.Bool.{Bool, true, false}
 use mathlib.Core.List.{List}
 use Prim.Native.Nat.{ℕ, zero, suc, _-_, _≤_, _<_}
@@ -15,12 +14,11 @@ use Rattle.model.specs.Order.{Names}
 use Rattle.model.specs.Entries.{Asked, IsEntry}
 use Rattle.model.specs.Query.{OfEntry}
 use Rattle.model.specs.Computed.Edges.{Small}
-use Rattle.model.specs.Computed.Patterns.{keyed?, minRepeat}
+use Rattle.model.specs.Computed.Patterns.{keyed?}
 use Rattle.model.specs.Computed.Entries.{entries}
 use Rattle.model.specs.Computed.Query.{digits, code?, entry?, risingEntries?, indexMemory?, answers?}
-use Rattle.model.proofs.Tests.{test-true, test-false, test-yields}
+use Rattle.model.proofs.Tests.{Tests, test-map, test-true, test-false, test-yields}
 use Rattle.model.proofs.Lists.{keep-out, sorted-keep}
-use Rattle.model.proofs.Patterns.{min-repeat-unique, folded}
 use Rattle.model.proofs.Entries.{entries-out, entries-rise}
 use Rattle.model.proofs.Query.{test-answers, right, struck-out}
 use Rattle.model.proofs.Memory.{standing-filled}
@@ -35,10 +33,9 @@ pub record Turned (g : Graph) (whole struck : List ℕ) : Type 0 where
   pub start : ℕ
   pub destination : ℕ
   pub asked : Asked g pattern start destination
-  pub own : minRepeat pattern ≡ pattern
   pub runs : Runs g pattern start destination
-  pub yes-before : answers? (g .vertices) whole (minRepeat pattern) start destination ≡ true
-  pub no-after : answers? (g .vertices) struck (minRepeat pattern) start destination ≡ false
+  pub yes-before : answers? (g .vertices) whole pattern start destination ≡ true
+  pub no-after : answers? (g .vertices) struck pattern start destination ≡ false
 
 -- ---- each determined entry passes check 12
 
@@ -86,21 +83,12 @@ module _ (g : Graph) (order : List ℕ) (small : Small g) (slots : ℕ) where
   pub whole-passes : indexMemory? (g .vertices) (g .longest) (filled slots (entries g order)) ≡ true
   whole-passes = memory-passes (g .vertices) (g .longest) slots (entries g order) (entries-rise g order small) (entry-valid g order small)
 
-  pattern-right : {l : List ℕ} {s t : ℕ} → Asked g l s t
-      → (answers? (g .vertices) (filled slots (entries g order)) l s t ≡ true) ↔ Runs g l s t
-  pattern-right {l} {s} {t} q =
-      let tests = test-answers (g .vertices) (entries g order) l s t in
+  -- a question by a pattern of the index is answered yes if a walk runs it, and only then
+  pub answer-right : {l : List ℕ} {s t : ℕ} → Asked g l s t → Tests (answers? (g .vertices) (filled slots (entries g order)) l s t) (Runs g l s t)
+  answer-right {l} {s} {t} q =
       let same = memory-answers (g .vertices) (g .longest) slots (entries g order) (entries-rise g order small) (entry-valid g order small)
-      (q .pattern .keyed) s t in (
-        λ e. right g order small q .0 (test-yields tests (sym same ∙ e)),
-        λ r. same ∙ test-true tests (right g order small q .1 r),
-      )
-
-  -- a question, once its pattern is folded, is answered yes if a walk runs it, and only then
-  pub answer-right : {pattern : List ℕ} {start destination : ℕ} → start < g .vertices → destination < g .vertices → Keyed (g .longest) pattern
-      → (answers? (g .vertices) (filled slots (entries g order)) (minRepeat pattern) start destination ≡ true)
-      ↔ Runs g (minRepeat pattern) start destination
-  answer-right hs ht p = pattern-right (record { from = hs; to = ht; pattern = folded p })
+      (q .pattern .keyed) s t in
+      rw same (test-map (right g order small q .0) (right g order small q .1) (test-answers (g .vertices) (entries g order) l s t))
 
   -- entries struck out, the others closed up and zeros behind (f says which are kept, e is one that is not): some right yes becomes a no
   pub struck-answer : Names (g .vertices) order → (f : ℕ → Bool) (e : ℕ) → e ∈ entries g order → ¬ T (f e)
@@ -108,7 +96,6 @@ module _ (g : Graph) (order : List ℕ) (small : Small g) (slots : ℕ) where
   struck-answer names f e m gone =
       let lost = struck-out g order small names f e m gone in
       let p = lost .asked .pattern in
-      let own : minRepeat (lost .pattern) ≡ lost .pattern = min-repeat-unique (lost .pattern) (lost .pattern) (p .keyed .long) (p .own) in
       let rise : Rising (keep f (entries g order)) = sorted-keep f (entries-rise g order small) in
       let valid : (x : ℕ) → x ∈ keep f (entries g order) → entry? (g .vertices) (g .longest) x ≡ true
       = λ x k. entry-valid g order small x (keep-out f (entries g order) k .0) in
@@ -120,8 +107,7 @@ module _ (g : Graph) (order : List ℕ) (small : Small g) (slots : ℕ) where
         start = lost .start;
         destination = lost .destination;
         asked = lost .asked;
-        own = own;
         runs = lost .runs;
-        yes-before = rw own (pattern-right (lost .asked) .1 (lost .runs));
-        no-after = rw own (same ∙ test-false tests (lost .answered-no));
+        yes-before = test-true (answer-right (lost .asked)) (lost .runs);
+        no-after = same ∙ test-false tests (lost .answered-no);
       }

@@ -6,6 +6,7 @@ pub mod Changes
 pub mod Openings
 pub mod CardReader
 pub mod Cards
+pub mod Asking
 pub mod Demand1
 pub mod Reading
 pub mod Right

@@ -7,14 +7,15 @@ use Prim.Native.Nat.{ℕ, zero, suc}
 use native.Mathlib.Omega.{arith}
 use lib.Dec.{leb}
 use lib.ListN.{length}
-use Rattle.model.specs.Limits.{leastWork}
+use Rattle.model.specs.Limits.{mostLongest, leastWork}
 use Rattle.model.specs.Edges.{Graph, Bounds, standing}
+use Rattle.model.specs.Patterns.{times, Keyed, MinRepeat}
 use Rattle.model.specs.Computed.Edges.{Small, edgeMemory?}
-use Rattle.model.specs.Computed.Patterns.{keyed?, minRepeat}
+use Rattle.model.specs.Computed.Patterns.{keyed?, minRepeat, timesWritten}
 use Rattle.model.specs.Computed.Order.{counted}
 use Rattle.model.specs.Computed.Entries.{determined}
 use Rattle.model.proofs.Tests.{Tests, test-true, test-yields}
-use Rattle.model.proofs.Patterns.{test-keyed, min-repeat, min-repeat-unique, folded}
+use Rattle.model.proofs.Patterns.{test-keyed, min-repeat, min-repeat-unique, written-gives, written-is}
 use Rattle.model.proofs.Walks.{runs-spells, spells-runs}
 use Rattle.model.proofs.Levels.{state-zero, level-zero, level-iff}
 use Rattle.model.proofs.Search.{told, decides}
@@ -29,6 +30,7 @@ use Rattle.calls.specs.Search.{searchRefusal, searchCall}
 use Rattle.calls.proofs.Checks.{bounded, test-ends}
 use Rattle.calls.proofs.Passing.{passing}
 use Rattle.demands.specs.Demand1.{searchNumber}
+use Rattle.demands.proofs.Asking.{unrefused, search-right}
 use Rattle.demands.specs.Meaning.{Replies, GraphMeaning, Meaning}
 
 -- a test is true exactly if its statement holds
@@ -50,17 +52,17 @@ graph-meaning g b =
     }
 
 accepted-searches : (h : Header) (start destination : ℕ) (pattern : List ℕ) (limit : ℕ) (m : Memory) → searchRefusal h start destination pattern m ≡ 0
-    → Replies (graphOf h (standing (m .edges))) (minRepeat pattern) start destination limit (searchCall h start destination pattern limit m .reply)
+    → Replies (graphOf h (standing (m .edges))) pattern start destination limit (searchCall h start destination pattern limit m .reply)
 unfolding searchCall
 accepted-searches h start destination pattern limit m e =
     let (v, (k, (_, (_, (ends, (keyed, _)))))) = passing checks tt (unfold searchRefusal in e) in
     let b : Bounds (h .vertices) (h .longest) = bounded v k in
     let (hs, ht) = test-yields (test-ends (h .vertices) start destination) ends in
-    let p = folded (test-yields (test-keyed (h .longest) pattern) keyed) .keyed in
+    let p = test-yields (test-keyed (h .longest) pattern) keyed in
     let g = graphOf h (standing (m .edges)) in
     rw e (record {
-      told = told g (minRepeat pattern) start destination limit;
-      decides = λ enough. decides g (minRepeat pattern) start destination (b .vertices-most) (p .long) hs ht limit enough (omega (arith, p .short, b .longest-most));
+      told = told g pattern start destination limit;
+      decides = λ enough. decides g pattern start destination (b .vertices-most) (p .long) hs ht limit enough (omega (arith, p .short, b .longest-most));
     })
   where
     checks : List Check
@@ -75,24 +77,31 @@ accepted-searches h start destination pattern limit m e =
 
 searches : (h : Header) (start destination : ℕ) (pattern : List ℕ) (limit : ℕ) (m : Memory) →
     let r = searchCall h start destination pattern limit m .reply in
-    searchNumber r ≡ 0 → Replies (graphOf h (standing (m .edges))) (minRepeat pattern) start destination limit r
+    searchNumber r ≡ 0 → Replies (graphOf h (standing (m .edges))) pattern start destination limit r
 unfolding searchCall
 searches h start destination pattern limit m e = go (searchRefusal h start destination pattern m) refl
   where
     go : (n : ℕ) → searchRefusal h start destination pattern m ≡ n
-        → Replies (graphOf h (standing (m .edges))) (minRepeat pattern) start destination limit (searchCall h start destination pattern limit m .reply)
+        → Replies (graphOf h (standing (m .edges))) pattern start destination limit (searchCall h start destination pattern limit m .reply)
     go zero q = accepted-searches h start destination pattern limit m q
     go (suc n) q = absurd (let z : suc n ≡ 0 = rw q at e in omega (arith, z))
+
+written : (l m : List ℕ) (j : ℕ) → Keyed mostLongest l → MinRepeat l m → (times j m ≡ l) ↔ (j ≡ timesWritten l)
+written l m j p r =
+    let same : minRepeat l ≡ m = min-repeat-unique l m (p .long) r in
+    rw (sym same) (written-is l p j, λ e. rw e (written-gives l p))
 
 pub meaning : Meaning
 meaning =
     record {
       keyed = λ k l. exactly (test-keyed k l);
       repeat = λ l m h. (min-repeat-unique l m h, λ e. rw (sym e) (min-repeat l h));
+      written = written;
       runs = λ g l s t. (runs-spells, λ (j, p). spells-runs j p);
       graphs = graph-meaning;
       answers = λ vertices index l s t. exactly (test-answers vertices index l s t);
       level-zero = λ g l s z. (λ m. level-zero g l s z .0 m ∙ sym (state-zero s), λ e. level-zero g l s z .1 (e ∙ state-zero s));
       level-next = λ g l s i z. level-iff g l s i z;
       searches = searches;
+      queries = λ h s t l m more e. search-right h s t l m (unrefused h s t l m e) more;
     }

@@ -6,6 +6,8 @@ use mathlib.Core.List.{List, []}
 use Prim.Native.Nat.{ℕ, _≤_}
 use lib.ListN.{drop}
 use Rattle.model.specs.Lists.{zeroed}
+use Rattle.model.specs.Patterns.{MinRepeat}
+use Rattle.model.specs.Query.{Answered, Yes as AnsweredYes, No as AnsweredNo, Refused as AnsweredRefused}
 use Rattle.model.specs.States.{Reply, Yes, No, Spent, Refused}
 use Rattle.calls.specs.Call.{Header, Memory, lent, cleared, Outcome, Returned, Wrote, Length, Refused as NotWritten, noRecord}
 use Rattle.calls.specs.Search.{searchCall}
@@ -34,9 +36,19 @@ searchNumber (No c) = 0
 searchNumber (Spent c) = 0
 searchNumber (Refused n) = n
 
+abbrev pub queryNumber : Answered → ℕ
+queryNumber AnsweredYes = 0
+queryNumber AnsweredNo = 0
+queryNumber (AnsweredRefused n) = n
+
 abbrev pub writeNumber : Wrote → ℕ
 writeNumber (Length n) = 0
 writeNumber (NotWritten n) = n
+
+-- what an accepted question leaves
+pub record Leaves (pattern : List ℕ) (m m′ : Memory) : Type 0 where
+  pub once : MinRepeat pattern pattern → m′ ≡ m
+  pub repeating : ¬ MinRepeat pattern pattern → m′ ≡ cleared m
 
 pub record Demand1 : Type 0 where
   pub opens : (h : Header) (edges index : List ℕ) → let m = lent edges index [] in ChangeKeeps h m (openCall h m)
@@ -44,8 +56,11 @@ pub record Demand1 : Type 0 where
   pub removes : (h : Header) (from label to : ℕ) (m : Memory) → ChangeKeeps h m (removeCall h from label to m)
   -- "for a card, no record"
   pub reads : (bytes : List ℕ) (m : Memory) → ChangeKeeps noRecord m (readCall bytes m)
-  -- a question changes nothing
-  pub queries : (h : Header) (start destination : ℕ) (pattern : List ℕ) (m : Memory) → queryCall h start destination pattern m .memory ≡ m
+  -- document 02, Two: a question by a pattern that repeats itself zeroes work memory "past check 4", so unless it is refused; "other questions leave
+  -- it as found". Nothing else is changed
+  pub queries : (h : Header) (start destination : ℕ) (pattern : List ℕ) (m : Memory) →
+      let c = queryCall h start destination pattern m in
+      Keeps m c (queryNumber (c .reply)) × (queryNumber (c .reply) ≡ 0 → Leaves pattern m (c .memory))
   -- an accepted plain check zeroes work memory, and changes nothing else
   pub searches : (h : Header) (start destination : ℕ) (pattern : List ℕ) (limit : ℕ) (m : Memory) →
       let c = searchCall h start destination pattern limit m in

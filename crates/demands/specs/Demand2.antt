@@ -1,37 +1,46 @@
 -- Demand 2: replies are right on the record and index that the last accepted change left, and cards restore what they were written from.
 use mathlib.Core.Path.{_≡_}
-use mathlib.Core.Logic.{_⊎_}
 use mathlib.Core.List.{List, [], _++_}
 use Prim.Native.Nat.{ℕ, _+_, _≤_, _<_}
 use lib.ListN.{length, take, drop}
 use Rattle.model.specs.Limits.{mostEdges, leastWork}
 use Rattle.model.specs.Lists.{filled, Bytes}
 use Rattle.model.specs.Edges.{Graph, standing}
-use Rattle.model.specs.Patterns.{Keyed}
+use Rattle.model.specs.Patterns.{Keyed, MinRepeat, Pattern}
 use Rattle.model.specs.Walks.{Runs}
-use Rattle.model.specs.Query.{Yes, No, Refused}
-use Rattle.model.specs.Computed.Patterns.{minRepeat}
+use Rattle.model.specs.Query.{Answered, Yes, No, Refused}
 use Rattle.model.specs.Computed.Entries.{determined}
 use Rattle.calls.specs.Call.{Header, graphOf, Memory, lent, Outcome, Returned, Length}
 use Rattle.calls.specs.Query.{queryCall}
 use Rattle.calls.specs.Change.{openCall, insertCall, removeCall}
 use Rattle.calls.specs.Card.{readCall, writeCall}
 
--- (a) queries (questions) put with a record and an index memory, to the standing edges of a graph
-pub record Right (h : Header) (index : List ℕ) (g : Graph) : Type 0 where
-  -- yes exactly when some walk spells the pattern's minimum repeat one or more whole times, else no
-  pub replies : (start destination : ℕ) (pattern : List ℕ) → start < g .vertices → destination < g .vertices → Keyed (g .longest) pattern
-      → ((queryCall h start destination pattern (lent [] index []) .reply ≡ Yes) × Runs g (minRepeat pattern) start destination)
-      ⊎ ((queryCall h start destination pattern (lent [] index []) .reply ≡ No) × (¬ Runs g (minRepeat pattern) start destination))
-  -- every other question is refused
-  pub ends : (start destination : ℕ) (pattern : List ℕ) → ¬ ((start < g .vertices) × (destination < g .vertices))
-      → queryCall h start destination pattern (lent [] index []) .reply ≡ Refused 10
-  pub patterns : (start destination : ℕ) (pattern : List ℕ) → start < g .vertices → destination < g .vertices → ¬ Keyed (g .longest) pattern
-      → queryCall h start destination pattern (lent [] index []) .reply ≡ Refused 11
+-- "A yes or no is judged by the pattern as keyed" (document 02, Two): yes, and some walk spells it one or more whole times, or no, and none does
+pub data Judged (g : Graph) (l : List ℕ) (s t : ℕ) : Answered → Type 0 where
+  runs : Runs g l s t → Judged g l s t Yes
+  runs-not : ¬ Runs g l s t → Judged g l s t No
 
--- put with the record that a change handed back and the index memory that it left, to the edges that stand in the edge memory that it left
+-- (a) queries (questions) put with a record and an index memory, to the standing edges of a graph, which those of an edge memory are
+pub record Right (h : Header) (edges index : List ℕ) (g : Graph) : Type 0 where
+  -- a pattern that is its own minimum repeat is judged rightly whatever edge and work memory are lent
+  pub once : (start destination : ℕ) (pattern : List ℕ) → start < g .vertices → destination < g .vertices → Pattern (g .longest) pattern
+      → (other work : List ℕ) → Judged g pattern start destination (queryCall h start destination pattern (lent other index work) .reply)
+  -- "for a pattern that repeats itself, demand 2 supposes the legs too as the last accepted change left them", and work memory of 4,096 numbers
+  pub repeating : (start destination : ℕ) (pattern : List ℕ) → start < g .vertices → destination < g .vertices → Keyed (g .longest) pattern
+      → ¬ MinRepeat pattern pattern → (work : List ℕ) → leastWork ≤ length work
+      → Judged g pattern start destination (queryCall h start destination pattern (lent edges index work) .reply)
+  -- every other question is refused: by less work memory, by its ends, by its pattern
+  pub less : (start destination : ℕ) (pattern : List ℕ) → start < g .vertices → destination < g .vertices → Keyed (g .longest) pattern
+      → ¬ MinRepeat pattern pattern → (work : List ℕ) → length work < leastWork
+      → queryCall h start destination pattern (lent edges index work) .reply ≡ Refused 4
+  pub ends : (start destination : ℕ) (pattern : List ℕ) → ¬ ((start < g .vertices) × (destination < g .vertices))
+      → (other work : List ℕ) → queryCall h start destination pattern (lent other index work) .reply ≡ Refused 10
+  pub patterns : (start destination : ℕ) (pattern : List ℕ) → start < g .vertices → destination < g .vertices → ¬ Keyed (g .longest) pattern
+      → (other work : List ℕ) → queryCall h start destination pattern (lent other index work) .reply ≡ Refused 11
+
+-- put with the record that a change handed back and the memory that it left, to the edges that stand in the edge memory that it left
 abbrev pub RightAfter : Outcome Returned → Type 0
-RightAfter c = Right (c .reply .header) (c .memory .index) (graphOf (c .reply .header) (standing (c .memory .edges)))
+RightAfter c = Right (c .reply .header) (c .memory .edges) (c .memory .index) (graphOf (c .reply .header) (standing (c .memory .edges)))
 
 -- (b) what reading gives of a card that was written
 pub record Restores (h : Header) (edges : List ℕ) (m : Memory) (c : Outcome Returned) : Type 0 where

@@ -6,7 +6,7 @@ use mathlib.Core.Bool.{true}
 use mathlib.Core.List.{List}
 use Prim.Native.Nat.{ℕ, suc, _≤_, _<_}
 use lib.ListN.{length}
-use Rattle.model.specs.Limits.{mostEdges, enoughLevels, hubUnit}
+use Rattle.model.specs.Limits.{mostLongest, mostEdges, enoughLevels, hubUnit}
 use Rattle.model.specs.Lists.{_∈_, Sorted, Rising, Padded}
 use Rattle.model.specs.Edges.{Graph, Bounds, OfEdge, standing}
 use Rattle.model.specs.Patterns.{times, Keyed, MinRepeat}
@@ -16,7 +16,7 @@ use Rattle.model.specs.Entries.{IsEntry}
 use Rattle.model.specs.Query.{Coded, OfEntry, Answers}
 use Rattle.model.specs.States.{state, Reply}
 use Rattle.model.specs.Computed.Edges.{edgeMemory?}
-use Rattle.model.specs.Computed.Patterns.{keyed?, minRepeat}
+use Rattle.model.specs.Computed.Patterns.{keyed?, minRepeat, timesWritten}
 use Rattle.model.specs.Computed.Order.{counted}
 use Rattle.model.specs.Computed.Levels.{level}
 use Rattle.model.specs.Computed.Entries.{determined}
@@ -24,7 +24,9 @@ use Rattle.model.specs.Computed.Query.{code?, indexMemory?, answers?}
 use Rattle.model.specs.Levels.{Reached, Told, Decides}
 use Rattle.calls.specs.Call.{Header, graphOf, Memory}
 use Rattle.calls.specs.Search.{searchCall}
-use Rattle.demands.specs.Demand1.{searchNumber}
+use Rattle.calls.specs.Query.{queryCall}
+use Rattle.demands.specs.Demand1.{searchNumber, queryNumber}
+use Rattle.demands.specs.Demand2.{Judged}
 
 -- what an accepted plain check (level search) replies
 pub record Replies (g : Graph) (l : List ℕ) (s t limit : ℕ) (r : Reply) : Type 0 where
@@ -54,6 +56,8 @@ pub record Meaning : Type 0 where
   pub keyed : (k : ℕ) (l : List ℕ) → (keyed? k l ≡ true) ↔ Keyed k l
   -- "the shortest pattern which, written some whole number of times, gives it": the one computed, and no other
   pub repeat : (l m : List ℕ) → 1 ≤ length l → MinRepeat l m ↔ (minRepeat l ≡ m)
+  -- document 02, Two: "how many times it was written"
+  pub written : (l m : List ℕ) (j : ℕ) → Keyed mostLongest l → MinRepeat l m → (times j m ≡ l) ↔ (j ≡ timesWritten l)
   -- "It runs pattern L if its colours spell L one or more whole times."
   pub runs : (g : Graph) (l : List ℕ) (s t : ℕ) → Runs g l s t ↔ ((j : ℕ) × Spells g s (times (suc j) l) t)
   -- "1 to 256 places", "The longest pattern k is 1 to 4"
@@ -63,7 +67,11 @@ pub record Meaning : Type 0 where
   -- "level 0 is the pair (s, 0)"; "Level i+1 is every (place, colours of L used so far ..) that .. and that is in none of levels 1 to i"
   pub level-zero : (g : Graph) (l : List ℕ) (s z : ℕ) → (z ∈ level g l s 0) ↔ (z ≡ state s 0)
   pub level-next : (g : Graph) (l : List ℕ) (s i z : ℕ) → (z ∈ level g l s (suc i)) ↔ Reached g l s i z
-  -- a plain check that is not refused
+  -- a plain check that is not refused, by the pattern as keyed
   pub searches : (h : Header) (start destination : ℕ) (pattern : List ℕ) (limit : ℕ) (m : Memory) →
       let r = searchCall h start destination pattern limit m .reply in
-      searchNumber r ≡ 0 → Replies (graphOf h (standing (m .edges))) (minRepeat pattern) start destination limit r
+      searchNumber r ≡ 0 → Replies (graphOf h (standing (m .edges))) pattern start destination limit r
+  -- document 02, Two: a question by a pattern that repeats itself, on whatever record and memory, that is not refused
+  pub queries : (h : Header) (start destination : ℕ) (pattern : List ℕ) (m : Memory) → ¬ MinRepeat pattern pattern →
+      let r = queryCall h start destination pattern m .reply in
+      queryNumber r ≡ 0 → Judged (graphOf h (standing (m .edges))) pattern start destination r

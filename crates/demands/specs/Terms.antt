@@ -40,11 +40,11 @@ abbrev pub standingGraph : Book → Graph
 standingGraph b = record { vertices = b .vertices; longest = b .longest; edges = rising (b .edges) }
 
 -- "It is rightly a yes if its pattern has at most k colours, is its own minimum repeat, and is run by a walk of standing legs from start to
--- destination." Put with that memory and the record, it is answered no
+-- destination." Put with that memory and the record, it is answered no, whatever edge and work memory are lent with it: they play no part
 pub record Missed (h : Header) (b : Book) (index : List ℕ) : Type 0 where
   pub start : ℕ
   pub destination : ℕ
   pub pattern : List ℕ
   pub own : Pattern (b .longest) pattern
   pub runs : Runs (standingGraph b) pattern start destination
-  pub answered : queryCall h start destination pattern (lent [] index []) .reply ≡ No
+  pub answered : (edges work : List ℕ) → queryCall h start destination pattern (lent edges index work) .reply ≡ No

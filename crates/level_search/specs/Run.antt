@@ -1,6 +1,6 @@
 -- What the level search needs, and what it replies.
 use mathlib.Core.Path.{_≡_}
-use mathlib.Core.Bool.{true}
+use mathlib.Core.Bool.{Bool, true}
 use mathlib.Core.List.{List}
 use Prim.Native.Nat.{ℕ, _≤_, _<_}
 use lib.ListN.{length}
@@ -10,7 +10,7 @@ use Rattle.model.specs.Patterns.{Keyed}
 use Rattle.model.specs.States.{Reply}
 use Rattle.model.specs.Replies.{numberOf, replyOf}
 use Rattle.model.specs.Computed.Edges.{bare, edge?}
-use Rattle.model.specs.Computed.Levels.{levelReply}
+use Rattle.model.specs.Computed.Levels.{levelReply, runs?}
 use Rattle.model.specs.declared.SearchReply.{SearchReply}
 use Rattle.calls.specs.Call.{Header, Memory}
 use Rattle.calls.specs.Search.{searchRefusal}
@@ -34,6 +34,11 @@ foundBy vertices edges l s t limit = levelReply (bare vertices edges) l s t limi
 -- the search's contract: the reply is the levels', and work memory ends zero
 pub record Searches (vertices : ℕ) (edges l : List ℕ) (s t limit : ℕ) (work : List ℕ) (r : SearchReply) (work′ : List ℕ) : Type 0 where
   pub reply : replyOf r ≡ foundBy vertices edges l s t limit
+  pub work-after : work′ ≡ zeroed work
+
+-- the same for as many levels as always suffice: whether a walk runs l, and work memory ends zero
+pub record Finds (vertices : ℕ) (edges l : List ℕ) (s t : ℕ) (work : List ℕ) (found : Bool) (work′ : List ℕ) : Type 0 where
+  pub is : found ≡ runs? (bare vertices edges) l s t
   pub work-after : work′ ≡ zeroed work
 
 -- ---- what the call's checks hand on

@@ -20,7 +20,10 @@ ghost use Rattle.edges.specs.Slots.{Under, Starts};
 ghost use Rattle.calls.specs.Call.{lent, Meets};
 ghost use Rattle.calls.specs.Search.{searchCall};
 ghost use Rattle.level_search.specs.Work.{Room, Grown, Ahead, LedTo, Fit, Short};
-ghost use Rattle.level_search.specs.Run.{Searchable, foundBy, Searches, SearchChecks};
+ghost use Rattle.level_search.specs.Run.{Searchable, foundBy, Searches, Finds, SearchChecks};
+
+// The model's number, in the width of a level limit.
+const ENOUGH_LEVELS: u32 = model::ENOUGH_LEVELS as u32;
 
 // Work memory: a mark for each state, then the queue of states reached.
 const QUEUE: usize = MOST_LONGEST * MOST_VERTICES;
@@ -163,6 +166,27 @@ pub fn run(
     reply
 }
 
+// Whether a walk from s to t runs the pattern: the search with as many levels as always suffice. It leaves work memory zero.
+pub fn is_run(
+    vertices: u32,
+    edges: &[u32],
+    pattern: &[u8],
+    s: u32,
+    t: u32,
+    work: &mut [u64],
+) -> bool
+    requires { ⌜ Searchable vertices (now edges) (now pattern) s t × (leastWork ≤ length (now work)) ⌝ }
+    ensures { λ r. ⌜ Finds vertices (now (edges .entry)) (now (pattern .entry)) s t (now (work .entry)) r (now (work .exit)) ⌝ }
+{
+    let reply = run(vertices, edges, pattern, s, t, ENOUGH_LEVELS, work);
+    match reply {
+        SearchReply::Yes(_) => true,
+        SearchReply::No(_) => false,
+        SearchReply::Spent(_) => false,
+        SearchReply::Refused(_) => false,
+    }
+}
+
 // The checks 1 2 3 4 10 11, in that order.
 fn check(
     vertices: u32,
@@ -194,7 +218,7 @@ fn check(
     Standing::Refused(Refusal::QueryEnd)
 }
 
-// The plain check for all inputs. The pattern is folded to its minimum repeat once its length is checked.
+// The plain check for all inputs, by the pattern as keyed.
 pub fn search(
     vertices: u32,
     longest: u32,
@@ -214,12 +238,10 @@ pub fn search(
     match checked {
         Standing::Refused(refusal) => SearchReply::Refused(refusal),
         Standing::Edges(n) => {
-            let folded = patterns::minimum_repeat(pattern);
-            let length = folded.length;
             run(
                 vertices,
                 &edges[..n],
-                &pattern[..length],
+                pattern,
                 start,
                 destination,
                 level_limit,

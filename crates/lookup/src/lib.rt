@@ -12,7 +12,7 @@ ghost use lib.Dec.{T};
 ghost use lib.ListN.{length, getD};
 ghost use Rattle.model.specs.Limits.{mostLabel, tableLongest, tableSize};
 ghost use Rattle.model.specs.Patterns.{Keyed};
-ghost use Rattle.model.specs.Computed.Patterns.{foldedLength};
+ghost use Rattle.model.specs.Computed.Patterns.{foldedLength, timesWritten};
 ghost use Rattle.model.specs.Computed.Table.{repeatLengths, shorter, place};
 ghost use Rattle.lookup.specs.Table.{startsRight?, tested?};
 
@@ -64,16 +64,21 @@ fn length_at(table: &[u8; TABLE_SIZE], place: usize) -> u8
     table[place]
 }
 
-// The minimum repeat, looked up. Its length is 0 unless the pattern has 1 to 4 labels 1 to 8.
+// The minimum repeat, looked up. Length and times are 0 unless the pattern has 1 to 4 labels 1 to 8.
 pub fn minimum_repeat(pattern: &[u8]) -> Folded
-    ensures { λ r. ⌜ r .length ≡ foldedLength (now (pattern .entry)) ⌝ }
+    ensures { λ r. ⌜ (r .length ≡ foldedLength (now (pattern .entry))) × (r .times ≡ timesWritten (now (pattern .entry))) ⌝ }
 {
     if patterns::is_keyed(LONGEST, pattern) {
+        let length = length_at(&LENGTHS, place(pattern)) as usize;
         Folded {
-            length: length_at(&LENGTHS, place(pattern)) as usize,
+            length: length,
+            times: pattern.len() / length,
         }
     } else {
-        Folded { length: 0 }
+        Folded {
+            length: 0,
+            times: 0,
+        }
     }
 }
 
@@ -83,5 +88,8 @@ pub fn agree(pattern: &[u8]) -> bool
 {
     let found = minimum_repeat(pattern);
     let computed = patterns::minimum_repeat(pattern);
-    found.length == computed.length
+    if found.length != computed.length {
+        return false;
+    }
+    found.times == computed.times
 }

@@ -1,6 +1,7 @@
 -- Laws of patterns: the minimum repeat exists, is one, and is a pattern again; the patterns as a list, by rising code.
 use mathlib.Core.Path.{_≡_, refl, sym, ap, _∙_}
 use mathlib.Core.Logic.{⊎-elim}
+use mathlib.Core.Bool.{Bool, true, false}
 use mathlib.Core.List.{List, [], _∷_, _++_, map, append-nil, append-assoc, List·Memᴰ, List·Memᴰ·head, List·Memᴰ·tail, List·Memᴰ·cases-cons, List·Memᴰ·not-nil, List·Memᴰ·append-cases, List·Memᴰ·eq-of-singleton, Memᴰ·append-left, Memᴰ·append-right, Memᴰ·map, Memᴰ·of-map}
 use Prim.Native.Nat.{ℕ, zero, suc, _+_, _-_, _*_, _/_, _^_, _≤_, _<_}
 use native.Mathlib.Nat.{mul-div-cancel, eq-or-lt-of-le, le-trans, mul-le-mul-right, le-mul-of-pos-right, one-le-pow, mul-assoc, pow-succ', lt-of-lt-of-le, le-of-suc-le-suc, not-suc-le-zero, zero-add}
@@ -10,8 +11,8 @@ use lib.Seq.{take-append-seam}
 use Rattle.model.specs.Limits.{hubUnit, mostLongest, mostLabel}
 use Rattle.model.specs.Lists.{_∈_, from, Sorted, none, next}
 use Rattle.model.specs.Patterns.{times, Keyed, MinRepeat, Pattern, codeFrom, code}
-use Rattle.model.specs.Computed.Patterns.{keyed?, repeatFrom, minRepeat, foldedLength, Folds, own?, words, keyedPatterns, patterns}
-use Rattle.model.proofs.Tests.{Tests, test-map, test-and, test-le, test-all, test-same, test-true, by-test}
+use Rattle.model.specs.Computed.Patterns.{keyed?, repeatFrom, minRepeat, foldedLength, timesWritten, once?, Folds, own?, words, keyedPatterns, patterns}
+use Rattle.model.proofs.Tests.{Tests, test-map, test-and, test-le, test-all, test-same, test-eq, test-true, test-false, by-test}
 use Rattle.model.proofs.Lists.{keep-in, keep-out, from-in, from-out, rising-from, spread-in, spread-out, sorted-keep, sorted-imp, sorted-append, sorted-map, sorted-spread}
 
 -- check 11 tests what it should
@@ -130,9 +131,47 @@ folded-length l p = rw (test-true (test-keyed mostLongest l) p)
 pub folded-take : (l : List ℕ) → Keyed mostLongest l → take (foldedLength l) l ≡ minRepeat l
 folded-take l p = ap (λ (n : ℕ). take n l) (folded-length l p) ∙ repeat-front l (p .long)
 
--- that length is all that the folding promises
-pub folds : {l : List ℕ} {n : ℕ} → n ≡ foldedLength l → Folds l n
-folds {l} e = record { is = e; labels = λ p. rw e (folded-take l p) }
+-- and how often it was written
+pub times-written : (l : List ℕ) → Keyed mostLongest l → timesWritten l ≡ length l / length (minRepeat l)
+unfolding timesWritten
+times-written l p = rw (test-true (test-keyed mostLongest l) p)
+
+-- written so often, and not otherwise, the minimum repeat gives the pattern
+pub written-gives : (l : List ℕ) → Keyed mostLongest l → times (timesWritten l) (minRepeat l) ≡ l
+written-gives l p =
+    let (j, e) = min-repeat l (p .long) .often in
+    rw (times-written l p) (rw (repeat-front l (p .long)) at (times-back j (minRepeat l) l e (p .long)))
+
+pub written-is : (l : List ℕ) → Keyed mostLongest l → (j : ℕ) → times j (minRepeat l) ≡ l → j ≡ timesWritten l
+written-is l p j e =
+    let long : length l ≡ j * length (minRepeat l) = sym (ap length e) ∙ length-times j (minRepeat l) in
+    sym (times-written l p ∙ rw long (mul-div-cancel j (repeat-long l (p .long))))
+
+-- it is written once exactly if the pattern is its own minimum repeat
+pub test-once : (l : List ℕ) → Keyed mostLongest l → Tests (once? l) (MinRepeat l l)
+unfolding once?
+test-once l p = test-map
+    (λ e. let same : minRepeat l ≡ l = sym (times-one (minRepeat l)) ∙ rw e at (written-gives l p) in rw same at (min-repeat l (p .long)))
+    (λ o. let same : minRepeat l ≡ l = min-repeat-unique l l (p .long) o in sym (written-is l p 1 (times-one (minRepeat l) ∙ same)))
+    (test-eq (timesWritten l) 1)
+
+-- as a count tells it
+pub count-once : (l : List ℕ) {n : ℕ} → n ≡ timesWritten l → n ≡ 1 → once? l ≡ true
+unfolding once?
+count-once l e q = test-true (test-eq (timesWritten l) 1) (sym e ∙ q)
+
+pub count-more : (l : List ℕ) {n : ℕ} → n ≡ timesWritten l → ¬ (n ≡ 1) → once? l ≡ false
+unfolding once?
+count-more l e d = test-false (test-eq (timesWritten l) 1) (λ q. d (e ∙ q))
+
+-- the length and the count are all that the folding promises
+pub folds : {l : List ℕ} {n j : ℕ} → (n ≡ foldedLength l) × (j ≡ timesWritten l) → Folds l n j
+folds {l} (e, q) = record {
+  is = e;
+  often = q;
+  labels = λ p. rw e (folded-take l p);
+  gives = λ p. rw (e, q, folded-take l p) (written-gives l p);
+}
 
 take-in : (n : ℕ) {x : ℕ} (l : List ℕ) → x ∈ take n l → x ∈ l
 take-in n {x} l m = rw (take-append-drop n l) at (Memᴰ·append-left (drop n l) m)
@@ -152,6 +191,16 @@ folded {k} {l} p = record {
 pub folded-short : (l : List ℕ) → foldedLength l ≤ mostLongest
 unfolding foldedLength
 folded-short l = by-test (λ (n : ℕ). n ≤ mostLongest) (test-keyed mostLongest l) (λ k. folded k .keyed .short) (λ _. omega arith)
+
+pub written-short : (l : List ℕ) → timesWritten l ≤ mostLongest
+written-short l = go (keyed? mostLongest l) refl
+  where
+    go : (b : Bool) → keyed? mostLongest l ≡ b → timesWritten l ≤ mostLongest
+    go true e =
+        let p = (test-keyed mostLongest l) .yields (rw e tt) in
+        let most = le-mul-of-pos-right (timesWritten l) (repeat-long l (p .long)) in
+        omega (arith, most, sym (length-times (timesWritten l) (minRepeat l)) ∙ ap length (written-gives l p), p .short)
+    go false e = unfold timesWritten in rw e (omega arith)
 
 pub test-own : (l : List ℕ) → 1 ≤ length l → Tests (own? l) (MinRepeat l l)
 unfolding own?

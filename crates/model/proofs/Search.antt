@@ -15,7 +15,7 @@ use Rattle.model.specs.Walks.{Runs}
 use Rattle.model.specs.States.{state, Reply, Yes, No, Spent}
 use Rattle.model.specs.Computed.Levels.{states, leads?, led?, Stage, grow, stage, level, replyAt, replyFrom, levelReply, isYes?, runs?}
 use Rattle.model.specs.Levels.{Quiet, Told, found, ended, stopped, Decides}
-use Rattle.model.proofs.Tests.{Tests, test-true, test-false, test-dec, test-T, test-mem}
+use Rattle.model.proofs.Tests.{Tests, test-true, test-false, test-agree, test-dec, test-T, test-mem}
 use Rattle.model.proofs.Levels.{state-zero, level-runs, level-all, level-size, fresh-size}
 
 pub empty-out : (l : List ℕ) → T (empty? l) → (x : ℕ) → ¬ (x ∈ l)
@@ -107,14 +107,22 @@ module _ (g : Graph) (l : List ℕ) (s t : ℕ) where
         go (Spent c) h = absurd (omega (arith, told-spent h))
 
 module _ (g : Graph) (l : List ℕ) (small : g .vertices ≤ mostVertices) (full : 1 ≤ length l) (s t : ℕ) (hs : s < g .vertices) (ht : t < g .vertices) where
-  pub test-runs : Tests (runs? g l s t) (Runs g l s t)
-  unfolding runs?
-  test-runs = go (levelReply g l s t (suc (length l * mostVertices))) (told g l s t (suc (length l * mostVertices)))
+  -- with an allowance of more levels than there are states
+  test-yes : (limit : ℕ) → length l * mostVertices < limit → Tests (isYes? (levelReply g l s t limit)) (Runs g l s t)
+  test-yes limit more = go (levelReply g l s t limit) (told g l s t limit)
     where
-      go : (r : Reply) → Told g l s t (suc (length l * mostVertices)) r → Tests (isYes? r) (Runs g l s t)
+      go : (r : Reply) → Told g l s t limit r → Tests (isYes? r) (Runs g l s t)
       go (Yes c) h = record { yields = λ _. told-yes g l s t small full hs ht h; passes = λ _. tt }
       go (No c) h = record { yields = λ x. absurd x; passes = λ r. told-no g l s t small full hs ht h r }
       go (Spent c) h = absurd (omega (arith, told-spent g l s t h))
+
+  pub test-runs : Tests (runs? g l s t) (Runs g l s t)
+  unfolding runs?
+  test-runs = test-yes (suc (length l * mostVertices)) (omega arith)
+
+  -- so one of 1,025 says whether a walk runs a pattern
+  pub yes-runs : (limit : ℕ) → enoughLevels ≤ limit → length l ≤ mostLongest → isYes? (levelReply g l s t limit) ≡ runs? g l s t
+  yes-runs limit enough short = test-agree (test-yes limit (omega arith)) test-runs
 
   pub runs-dec : Dec (Runs g l s t)
   runs-dec = test-dec test-runs
@@ -133,3 +141,8 @@ module _ (vertices : ℕ) (edges l : List ℕ) (t j k : ℕ) where
       → levelReply (record { vertices = vertices; longest = j; edges = edges }) l s t limit ≡ levelReply (record { vertices = vertices; longest = k; edges = edges }) l s t limit
   unfolding levelReply stage states
   reply-as s limit = from-as limit 0 _
+
+  pub runs-as : (s : ℕ)
+      → runs? (record { vertices = vertices; longest = j; edges = edges }) l s t ≡ runs? (record { vertices = vertices; longest = k; edges = edges }) l s t
+  unfolding runs?
+  runs-as s = ap isYes? (reply-as s (suc (length l * mostVertices)))

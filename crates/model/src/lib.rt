@@ -35,6 +35,9 @@ pub const HUB_UNIT: u64 = 1 << 16;
 // Work memory has at least 4,096 numbers.
 pub const LEAST_WORK: usize = 4096;
 
+// "An allowance of 1,025 always gives yes or no": one level more than there are states.
+pub const ENOUGH_LEVELS: usize = MOST_LONGEST * MOST_VERTICES + 1;
+
 // A card's bytes before its edges (mark, version, places less one, k, leg count), and those of an edge behind them (from, colour, to).
 pub const HEAD_BYTES: usize = 9;
 

@@ -1,5 +1,5 @@
 -- The lengths that the recursion tries: whether one repeats, as the loop finds it, and the length of the minimum repeat.
-use mathlib.Core.Path.{_≡_, refl, sym, ap}
+use mathlib.Core.Path.{_≡_, refl, sym, ap, _∙_}
 use mathlib.Core.Bool.{Bool, true, false, cond}
 use mathlib.Core.List.{List}
 use Prim.Native.Nat.{ℕ, suc, _+_, _-_, _/_, _%_, _≤_, _<_}
@@ -9,11 +9,11 @@ use native.Mathlib.Omega.{arith}
 use lib.ListN.{length, take, getD}
 use lib.Seq.{length-take-le}
 use Rattle.model.specs.Limits.{mostLongest}
-use Rattle.model.specs.Patterns.{times}
-use Rattle.model.specs.Computed.Patterns.{keyed?, repeatFrom, minRepeat, foldedLength}
+use Rattle.model.specs.Patterns.{times, Keyed}
+use Rattle.model.specs.Computed.Patterns.{keyed?, repeatFrom, minRepeat, foldedLength, timesWritten}
 use Rattle.model.proofs.Tests.{Tests, test-same, test-true, test-false}
 use Rattle.model.proofs.Lists.{Below}
-use Rattle.model.proofs.Patterns.{length-times}
+use Rattle.model.proofs.Patterns.{length-times, repeat-long, folded-length, times-written}
 use Rattle.patterns.specs.Repeats.{repeats?, lengthFrom}
 use Rattle.patterns.proofs.Repeating.{Back, times-back, back-times}
 
@@ -67,11 +67,24 @@ module _ (l : List ℕ) (d : ℕ) (h : (1 ≤ d) × (d ≤ length l)) where
           let whole : lengthFrom l (d + 1) ≡ length l = rw none in
           omega (arith, from-next e)
 
--- ---- the minimum repeat of a pattern
-pub folded-keyed : (l : List ℕ) → keyed? mostLongest l ≡ true → lengthFrom l 1 ≡ foldedLength l
-unfolding foldedLength minRepeat lengthFrom
-folded-keyed l e = let all : suc (length l) - 1 ≡ length l = omega arith in rw (e, all)
+-- ---- the minimum repeat of a pattern, and how often it was written
 
+-- 0 of what is no pattern
 pub folded-not : (l : List ℕ) → keyed? mostLongest l ≡ false → 0 ≡ foldedLength l
 unfolding foldedLength
 folded-not l e = rw e
+
+pub written-not : (l : List ℕ) → keyed? mostLongest l ≡ false → 0 ≡ timesWritten l
+unfolding timesWritten
+written-not l e = rw e
+
+-- by the length of the minimum repeat, whoever found it
+pub found-some : (l : List ℕ) → Keyed mostLongest l → {n : ℕ} → n ≡ length (minRepeat l) → 1 ≤ n
+found-some l p e = omega (arith, e, repeat-long l (p .long))
+
+pub folded-found : (l : List ℕ) → Keyed mostLongest l → {n : ℕ} → n ≡ length (minRepeat l) → (n ≡ foldedLength l) × (length l / n ≡ timesWritten l)
+folded-found l p e = (e ∙ sym (folded-length l p), ap (λ (m : ℕ). length l / m) e ∙ sym (times-written l p))
+
+pub from-first : (l : List ℕ) → lengthFrom l 1 ≡ length (minRepeat l)
+unfolding minRepeat lengthFrom
+from-first l = let all : suc (length l) - 1 ≡ length l = omega arith in rw all

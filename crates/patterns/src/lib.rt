@@ -5,7 +5,7 @@ ghost use Prim.Native.Nat.{_≤_};
 ghost use lib.ListN.{length};
 ghost use Rattle.model.specs.Limits.{mostLongest};
 ghost use Rattle.model.specs.Patterns.{code, Keyed};
-ghost use Rattle.model.specs.Computed.Patterns.{keyed?, foldedLength};
+ghost use Rattle.model.specs.Computed.Patterns.{keyed?, foldedLength, timesWritten};
 ghost use Rattle.patterns.specs.Repeats.{repeats?, lengthFrom};
 
 // The model's numbers, in the width of what is checked.
@@ -13,9 +13,10 @@ const MOST_LONGEST: u32 = model::MOST_LONGEST as u32;
 
 const MOST_LABEL: u8 = model::MOST_LABEL as u8;
 
-// The minimum repeat of a pattern, which is its first `length` labels.
+// The minimum repeat of a pattern, which is its first `length` labels, and how many times it was written.
 pub struct Folded {
     pub length: usize,
+    pub times: usize,
 }
 
 // Check 11: 1 to `longest` labels, each 1 to 8.
@@ -74,16 +75,22 @@ fn length_from(pattern: &[u8], d: usize) -> usize
     length_from(pattern, d + 1)
 }
 
-// The minimum repeat, found by a recursion that tries one length after another from 1. Its length is 0 unless the pattern has 1 to 4 labels 1 to 8.
+// The minimum repeat, found by a recursion that tries one length after another from 1. Length and times are 0 unless the pattern has 1 to 4
+// labels 1 to 8.
 pub fn minimum_repeat(pattern: &[u8]) -> Folded
-    ensures { λ r. ⌜ r .length ≡ foldedLength (now (pattern .entry)) ⌝ }
+    ensures { λ r. ⌜ (r .length ≡ foldedLength (now (pattern .entry))) × (r .times ≡ timesWritten (now (pattern .entry))) ⌝ }
 {
     if is_keyed(MOST_LONGEST, pattern) {
+        let length = length_from(pattern, 1);
         Folded {
-            length: length_from(pattern, 1),
+            length: length,
+            times: pattern.len() / length,
         }
     } else {
-        Folded { length: 0 }
+        Folded {
+            length: 0,
+            times: 0,
+        }
     }
 }
 

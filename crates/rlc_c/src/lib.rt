@@ -10,7 +10,7 @@ ghost use mathlib.Core.Path.{_≡_};
 ghost use Prim.Native.Nat.{_*_};
 ghost use mathlib.Core.List.{[]};
 ghost use lib.ListN.{length, getD};
-ghost use Rattle.model.specs.Computed.Patterns.{Folds};
+ghost use Rattle.model.specs.Computed.Patterns.{foldedLength, timesWritten, Folds};
 ghost use Rattle.calls.specs.Call.{lent, Meets};
 ghost use Rattle.calls.specs.Search.{searchCall};
 ghost use Rattle.calls.specs.Query.{queryCall};
@@ -159,19 +159,23 @@ pub extern "C" fn rlc_query(
     start: u32,
     destination: u32,
     pattern: &[u8],
+    edges: &[u32],
     index: &[u64],
+    work: &mut [u64],
 ) -> u32
     ensures { λ r. ⌜
-        Meets (inC (now (words .entry)) answeredInC otherRecord (lent [] (now (index .entry)) [])
-        (queryCall (headerIn (now (words .entry))) start destination (now (pattern .entry)) (lent [] (now (index .entry)) [])))
-        r (lent [] (now (index .entry)) [])
+        Meets (inC (now (words .entry)) answeredInC otherRecord
+        (lent (now (edges .entry)) (now (index .entry)) (now (work .entry)))
+        (queryCall (headerIn (now (words .entry))) start destination (now (pattern .entry))
+        (lent (now (edges .entry)) (now (index .entry)) (now (work .entry)))))
+        r (lent (now (edges .entry)) (now (index .entry)) (now (work .exit)))
         ⌝ }
 {
     if words.len() != 2 {
         return OTHER_RECORD;
     }
     let header = header_in(words);
-    let reply = store::query(header, start, destination, pattern, index);
+    let reply = store::query(header, start, destination, pattern, edges, index, work);
     match reply {
         QueryReply::Yes => YES,
         QueryReply::No => 0,
@@ -242,7 +246,7 @@ pub extern "C" fn rlc_write_card(words: &[u32], edges: &[u32], output: &mut [u8]
 // The length of a pattern's minimum repeat, which is the pattern's first labels, by the table.
 #[no_mangle]
 pub extern "C" fn rlc_minimum_repeat(pattern: &[u8]) -> u32
-    ensures { λ r. ⌜ Folds (now (pattern .entry)) r ⌝ }
+    ensures { λ r. ⌜ Folds (now (pattern .entry)) r (timesWritten (now (pattern .entry))) ⌝ }
 {
     let folded = store::minimum_repeat(pattern);
     folded.length as u32
@@ -251,8 +255,17 @@ pub extern "C" fn rlc_minimum_repeat(pattern: &[u8]) -> u32
 // The same, computed.
 #[no_mangle]
 pub extern "C" fn rlc_minimum_repeat_computed(pattern: &[u8]) -> u32
-    ensures { λ r. ⌜ Folds (now (pattern .entry)) r ⌝ }
+    ensures { λ r. ⌜ Folds (now (pattern .entry)) r (timesWritten (now (pattern .entry))) ⌝ }
 {
     let folded = store::minimum_repeat_computed(pattern);
     folded.length as u32
+}
+
+// How many times a pattern's minimum repeat was written.
+#[no_mangle]
+pub extern "C" fn rlc_times_written(pattern: &[u8]) -> u32
+    ensures { λ r. ⌜ Folds (now (pattern .entry)) (foldedLength (now (pattern .entry))) r ⌝ }
+{
+    let folded = store::minimum_repeat_computed(pattern);
+    folded.times as u32
 }

@@ -154,17 +154,20 @@ pub fn write_card(header: Header, edges: &[u32], output: &mut [u8]) -> Written
     }
 }
 
-// The query (question).
+// The query (question). Edge and work memory are looked at only if the pattern repeats itself (document 02, Two).
 pub fn query(
     header: Header,
     start: u32,
     destination: u32,
     pattern: &[u8],
+    edges: &[u32],
     index: &[u64],
+    work: &mut [u64],
 ) -> QueryReply
     ensures { λ r. ⌜
-        Meets (queryCall (numbers header) start destination (now (pattern .entry)) (lent [] (now (index .entry)) []))
-        (answeredOf r) (lent [] (now (index .entry)) [])
+        Meets (queryCall (numbers header) start destination (now (pattern .entry))
+        (lent (now (edges .entry)) (now (index .entry)) (now (work .entry))))
+        (answeredOf r) (lent (now (edges .entry)) (now (index .entry)) (now (work .exit)))
         ⌝ }
 {
     query::query(
@@ -173,7 +176,9 @@ pub fn query(
         start,
         destination,
         pattern,
+        edges,
         index,
+        work,
     )
 }
 
@@ -204,16 +209,17 @@ pub fn level_search(
     )
 }
 
-// The length of a pattern's minimum repeat, which is the pattern's first labels, looked up in the table (document 02, One).
+// The length of a pattern's minimum repeat, which is the pattern's first labels, looked up in the table (document 02, One), and how many times it
+// was written (Two).
 pub fn minimum_repeat(pattern: &[u8]) -> Folded
-    ensures { λ r. ⌜ Folds (now (pattern .entry)) (r .length) ⌝ }
+    ensures { λ r. ⌜ Folds (now (pattern .entry)) (r .length) (r .times) ⌝ }
 {
     lookup::minimum_repeat(pattern)
 }
 
 // The same, by the recursion that tries one length after another.
 pub fn minimum_repeat_computed(pattern: &[u8]) -> Folded
-    ensures { λ r. ⌜ Folds (now (pattern .entry)) (r .length) ⌝ }
+    ensures { λ r. ⌜ Folds (now (pattern .entry)) (r .length) (r .times) ⌝ }
 {
     patterns::minimum_repeat(pattern)
 }

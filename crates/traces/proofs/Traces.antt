@@ -102,7 +102,7 @@ accounted {held} trace d = subst (位 (a : Account). Accounted trace a) (d .is 鈭
           needed = 位 f e m gone.
               subst (位 (s : Station). Missed (s .header) (d .account .book) (filled (length (held .index)) (keep f (bookEntries (d .account .book)))))
               (t .station) (d .needed f e m gone);
-          right = subst (位 (s : Station). Right (s .header) (s .index) (standingGraph (d .account .book))) (t .station) (d .right);
+          right = subst (位 (s : Station). Right (s .header) (s .edges) (s .index) (standingGraph (d .account .book))) (t .station) (d .right);
         }
 
 pub trace-holds : TraceHolds

@@ -93,8 +93,8 @@ pub record Accounted {held : Held} (trace : Trace held) (account : Account) : Ty
   pub index : endOf trace .index ≡ filled (length (held .index)) (bookEntries (account .book))
   pub needed : (f : ℕ → Bool) (e : ℕ) → e ∈ bookEntries (account .book) → ¬ T (f e)
       → Missed (numbers (endOf trace .header)) (account .book) (filled (length (held .index)) (keep f (bookEntries (account .book))))
-  -- and of demand 2: questions put afterwards, with that header and the index memory left, are answered rightly
-  pub right : Right (numbers (endOf trace .header)) (endOf trace .index) (standingGraph (account .book))
+  -- and of demand 2: questions put afterwards, with that header and the memory left, are answered rightly
+  pub right : Right (numbers (endOf trace .header)) (endOf trace .edges) (endOf trace .index) (standingGraph (account .book))
 
 -- For every trace that begins with an opening or card reading, whatever memory held before: accepted as the call answered, or as the ledger
 -- counts; either will do.

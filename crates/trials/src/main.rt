@@ -1,5 +1,5 @@
-// The unstarred trial runs of document 01, through the public calls: a line for each, with 0 if it is accepted, 100 for a yes, or the
-// number of the refusal.
+// The unstarred trial runs of document 01 and document 02's of a pattern keyed twice, through the public calls: a line for each, with 0 if it is
+// accepted or for a no, 100 for a yes, or the number of the refusal.
 use model::Answer;
 use model::QueryReply;
 use store::Header;
@@ -53,12 +53,35 @@ fn open(vertices: u32, longest: u32) -> u32 {
 fn ask_a(start: u32, destination: u32, pattern: &[u8]) -> u32 {
     let mut edges = [0u32; 3];
     let mut index = [0u64; 5];
+    let mut work = [0u64; 4096];
     read_a(&mut edges, &mut index);
     let header = Header {
         vertices: 3,
         longest: 2,
     };
-    let reply = store::query(header, start, destination, pattern, &index);
+    let reply = store::query(
+        header,
+        start,
+        destination,
+        pattern,
+        &edges,
+        &index,
+        &mut work,
+    );
+    reply_number(reply)
+}
+
+// A question, 0 to 1, with the single leg 0-1-1.
+fn ask_one_leg(pattern: &[u8]) -> u32 {
+    let mut edges = [0u32; 1];
+    let mut index = [0u64; 1];
+    let mut work = [0u64; 4097];
+    let header = Header {
+        vertices: 2,
+        longest: 2,
+    };
+    let laid = header.insert(0, 1, 1, &mut edges, &mut index, &mut work);
+    let reply = store::query(laid.header, 0, 1, pattern, &edges, &index, &mut work);
     reply_number(reply)
 }
 
@@ -90,4 +113,6 @@ fn main() {
     say(b"A, 0 to 3 by 1: ", ask_a(0, 3, b"\x01"));
     say(b"A, 0 to 0 by 1 2 1: ", ask_a(0, 0, b"\x01\x02\x01"));
     say(b"laying 0-1-1 in A: ", lay_in_a(0, 1, 1));
+    say(b"leg 0-1-1, 0 to 1 by 1 1: ", ask_one_leg(b"\x01\x01"));
+    say(b"leg 0-1-1, 0 to 1 by 1: ", ask_one_leg(b"\x01"));
 }

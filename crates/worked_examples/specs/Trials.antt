@@ -1,16 +1,17 @@
--- The starred trial runs of document 01 and layout A's slots, as one table of cases, put to the calls' definitions.
+-- The starred trial runs of document 01, layout A's slots, and what document 02 says of patterns keyed twice, as one table of cases, put to the
+-- calls' definitions.
 use mathlib.Core.Bool.{Bool, true, false, not, _&&_}
 use mathlib.Core.List.{List, [], _∷_}
 use Prim.Native.Nat.{ℕ, _+_}
 use lib.Dec.{eqb}
 use lib.ListN.{length, replicate}
-use Rattle.model.specs.Limits.{leastWork}
+use Rattle.model.specs.Limits.{leastWork, enoughLevels}
 use Rattle.model.specs.Edges.{edgeNumber, standing}
 use Rattle.model.specs.Query.{Answered, Yes as AnsweredYes, No as AnsweredNo, Refused as AnsweredRefused}
 use Rattle.model.specs.States.{Reply, Yes, No, Spent, Refused}
 use Rattle.model.specs.Computed.Lists.{same?}
 use Rattle.model.specs.Computed.Edges.{removeEdge}
-use Rattle.model.specs.Computed.Patterns.{minRepeat}
+use Rattle.model.specs.Computed.Patterns.{minRepeat, timesWritten}
 use Rattle.model.specs.Computed.Entries.{determined}
 use Rattle.calls.specs.Call.{Header, Memory, lent, Outcome, Returned}
 use Rattle.calls.specs.Search.{searchCall}
@@ -48,6 +49,16 @@ B = record { vertices = 8; longest = 1; edges = 258 ∷ 259 ∷ 516 ∷ 4352 ∷
 unfoldable pub removedB : TrialLayout
 removedB = record { vertices = 8; longest = 1; edges = removeEdge (edgeNumber 0 2 4) (B .edges) }
 
+-- document 02, Two: "With the single leg 0-1-1", with that and 1-1-2, and with a loop, all with k 2
+unfoldable pub oneLeg : TrialLayout
+oneLeg = record { vertices = 2; longest = 2; edges = 257 ∷ [] }
+
+unfoldable pub twoLegs : TrialLayout
+twoLegs = record { vertices = 3; longest = 2; edges = 257 ∷ 4354 ∷ [] }
+
+unfoldable pub loopTwo : TrialLayout
+loopTwo = record { vertices = 1; longest = 2; edges = 256 ∷ [] }
+
 -- Fig. 2 of paper 004, vertex v + 1 there being v here: edges 0-1-1, 0-2-2, 1-1-4, 1-2-4, 2-1-1, 2-1-5, 2-2-0, 2-2-3, 3-1-0, 3-3-5, 4-1-0
 unfoldable pub figure2 : TrialLayout
 figure2 = record { vertices = 6; longest = 2; edges = 257 ∷ 514 ∷ 4356 ∷ 4612 ∷ 8449 ∷ 8453 ∷ 8704 ∷ 8707 ∷ 12544 ∷ 13061 ∷ 16640 ∷ [] }
@@ -60,12 +71,18 @@ tableII =
     ∷ 4362076161 ∷ 4362076178 ∷ 4362141698 ∷ 4362207250 ∷ 4378853409 ∷ 4378984449 ∷ 4378984483 ∷ 4379049987
     ∷ []
 
+-- "the entries that they determine": those of a layout's edges
+unfoldable pub entriesOf : TrialLayout → List ℕ
+entriesOf y = determined (record { vertices = y .vertices; longest = y .longest; edges = standing (y .edges) })
+
 pub data Case : Type 0 where
   -- a pattern, and its minimum repeat
   repeats : (pattern expected : List ℕ) → Case
+  -- a pattern, and how many times its minimum repeat was written
+  written : (pattern : List ℕ) (expected : ℕ) → Case
   -- a plain check on a layout, from start to destination by a pattern with an allowance, and its reply
   searches : (y : TrialLayout) (start destination : ℕ) (pattern : List ℕ) (limit : ℕ) (expected : Reply) → Case
-  -- a question on a layout with an index memory, from start to destination by a pattern, and whether it is yes
+  -- a question on a layout with its edge memory and an index memory, from start to destination by a pattern, and whether it is yes
   queries : (y : TrialLayout) (index : List ℕ) (start destination : ℕ) (pattern : List ℕ) (expected : Bool) → Case
   -- a layout, and the entries that its edges determine
   indexed : (y : TrialLayout) (expected : List ℕ) → Case
@@ -98,6 +115,18 @@ trials =
     ∷ removes B 7 0 2 4 13
     ∷ removes B 8 0 2 4 0
     ∷ indexed figure2 tableII
+    ∷ written (1 ∷ 2 ∷ 1 ∷ 2 ∷ []) 2
+    ∷ written (1 ∷ 2 ∷ 1 ∷ []) 1
+    ∷ queries oneLeg (entriesOf oneLeg) 0 1 (1 ∷ 1 ∷ []) false
+    ∷ queries oneLeg (entriesOf oneLeg) 0 1 (1 ∷ []) true
+    ∷ queries twoLegs (entriesOf twoLegs) 0 2 (1 ∷ 1 ∷ []) true
+    ∷ queries twoLegs (entriesOf twoLegs) 0 1 (1 ∷ 1 ∷ []) false
+    ∷ queries loopTwo (entriesOf loopTwo) 0 0 (1 ∷ 1 ∷ []) true
+    ∷ searches oneLeg 0 1 (1 ∷ 1 ∷ []) enoughLevels (No 2)
+    ∷ searches oneLeg 0 1 (1 ∷ []) enoughLevels (Yes 1)
+    ∷ searches twoLegs 0 2 (1 ∷ 1 ∷ []) enoughLevels (Yes 2)
+    ∷ searches twoLegs 0 1 (1 ∷ 1 ∷ []) enoughLevels (No 3)
+    ∷ searches loopTwo 0 0 (1 ∷ 1 ∷ []) enoughLevels (Yes 2)
     ∷ []
 
 -- the two replies are the same
@@ -125,10 +154,6 @@ sameAnswer? AnsweredYes expected = expected
 sameAnswer? AnsweredNo expected = not expected
 sameAnswer? (AnsweredRefused n) expected = false
 
--- "the entries that they determine": those of a layout's edges
-unfoldable pub entriesOf : TrialLayout → List ℕ
-entriesOf y = determined (record { vertices = y .vertices; longest = y .longest; edges = standing (y .edges) })
-
 -- edge, index and work memory: the edges given, so many index slots, and the least work memory that a build may have
 unfoldable pub buildLent : List ℕ → ℕ → Memory
 buildLent edges room = lent edges (replicate room 0) (replicate (leastWork + room) 0)
@@ -140,12 +165,13 @@ trialHeader y = record { vertices = y .vertices; longest = y .longest }
 unfoldable pub leaves? : Outcome Returned → ℕ → List ℕ → List ℕ → Bool
 leaves? c number edges index = eqb (c .reply .answer) number && (same? (c .memory .edges) edges && same? (c .memory .index) index)
 
--- the definition gives what document 01 expects
+-- the definition gives what the documents expect
 unfoldable pub holds? : Case → Bool
 holds? (repeats pattern expected) = same? (minRepeat pattern) expected
+holds? (written pattern expected) = eqb (timesWritten pattern) expected
 holds? (searches y s t pattern limit expected) =
     sameReply? (searchCall (trialHeader y) s t pattern limit (lent (y .edges) [] (replicate leastWork 0)) .reply) expected
-holds? (queries y index s t pattern expected) = sameAnswer? (queryCall (trialHeader y) s t pattern (lent [] index []) .reply) expected
+holds? (queries y index s t pattern expected) = sameAnswer? (queryCall (trialHeader y) s t pattern (lent (y .edges) index (replicate leastWork 0)) .reply) expected
 holds? (indexed y expected) = same? (entriesOf y) expected
 holds? (counts y expected) = eqb (length (entriesOf y)) expected
 holds? (reads card slots room number edges index) = leaves? (readCall card (buildLent (replicate slots 0) room)) number edges index

@@ -6,28 +6,26 @@ use borrow.Author.Needs.{needs}
 use Rattle.bench_c.proofs.bench_query.Statement.{statement}
 use Rattle.bench_c.proofs.bench_query.Tie as tie
 
-query-requires : tie.Need-query-requires
-query-requires c κs = search needs
-
-enum-told : tie.Need-enum-told
-enum-told c = search needs
-
-enum-told-2 : tie.Need-enum-told-2
-enum-told-2 c = search needs
-
-enum-told-3 : tie.Need-enum-told-3
-enum-told-3 c = search needs
-
 returns : tie.Need-returns
-returns c = ap answerNumber (ap answeredOf (sym (c .enum-told .given .1)) ∙ c .before .before .query .ensures .reply-is)
+returns c = ap answerNumber (ap answeredOf (sym (c .enum-told .given .1)) ∙ c .before .before .before .before .query .ensures .reply-is)
 
 returns-2 : tie.Need-returns-2
-returns-2 c = ap answerNumber (ap answeredOf (sym (c .enum-told2 .given .1)) ∙ c .before .before .query .ensures .reply-is)
+returns-2 c = ap answerNumber (ap answeredOf (sym (c .enum-told2 .given .1)) ∙ c .before .before .before .before .query .ensures .reply-is)
 
 returns-3 : tie.Need-returns-3
-returns-3 c = ap answerNumber (ap answeredOf (sym (c .enum-told3 .given .1)) ∙ c .before .before .query .ensures .reply-is)
+returns-3 c = ap answerNumber (ap answeredOf (sym (c .enum-told3 .given .1)) ∙ c .before .before .before .before .query .ensures .reply-is)
 
 pub bench-query-spec : {M : Type 1} → statement M
 bench-query-spec =
     tie.close
-    (tie.spec query-requires enum-told enum-told-2 enum-told-3 returns returns-2 returns-3)
+    (tie.spec
+    (λ c κs. search needs)
+    (λ c. search needs)
+    (λ c. search needs)
+    (λ c. search needs)
+    (λ c. search needs)
+    returns
+    (λ c. search needs)
+    returns-2
+    (λ c. search needs)
+    returns-3)

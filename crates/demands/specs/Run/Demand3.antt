@@ -23,7 +23,7 @@ pub record Demand3 (s : Station) (calls : List Call) : Type 0 where
   pub needed : (f : ℕ → Bool) (e : ℕ) → e ∈ bookEntries (account .book) → ¬ T (f e)
       → Missed (run s calls .station .header) (account .book) (filled (length (s .index)) (keep f (bookEntries (account .book))))
   -- and of demand 2: questions put afterwards are answered rightly
-  pub right : Right (run s calls .station .header) (run s calls .station .index) (standingGraph (account .book))
+  pub right : Right (run s calls .station .header) (run s calls .station .edges) (run s calls .station .index) (standingGraph (account .book))
 
 -- for every list that begins with an opening or card reading that the ledger accepts, whatever edge, index and work memory hold
 abbrev pub Demand3Holds : Type 0

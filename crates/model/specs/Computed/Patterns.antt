@@ -3,6 +3,7 @@ use mathlib.Core.Path.{_≡_}
 use mathlib.Core.Bool.{Bool, _&&_, cond}
 use mathlib.Core.List.{List, [], _∷_, _++_, map}
 use Prim.Native.Nat.{ℕ, zero, suc, _/_}
+use lib.Dec.{eqb}
 use lib.ListN.{length, take}
 use Rattle.model.specs.Limits.{mostLabel, mostLongest}
 use Rattle.model.specs.Lists.{keep, from}
@@ -26,10 +27,21 @@ minRepeat l = repeatFrom (length l) 1 l
 unfoldable pub foldedLength : List ℕ → ℕ
 foldedLength l = cond (keyed? mostLongest l) (length (minRepeat l)) 0
 
--- what the folding of a pattern promises: that length, and the minimum repeat is the pattern's first labels, so many of them
-pub record Folds (pattern : List ℕ) (size : ℕ) : Type 0 where
+-- document 02, Two: "how many times it was written", and 0 of anything else
+unfoldable pub timesWritten : List ℕ → ℕ
+timesWritten l = cond (keyed? mostLongest l) (length l / length (minRepeat l)) 0
+
+-- "Where that count is one"
+unfoldable pub once? : List ℕ → Bool
+once? l = eqb (timesWritten l) 1
+
+-- what the folding of a pattern promises: that length and that count; the pattern's first labels, so many, are its minimum repeat, and written so
+-- often they give the pattern
+pub record Folds (pattern : List ℕ) (size count : ℕ) : Type 0 where
   pub is : size ≡ foldedLength pattern
+  pub often : count ≡ timesWritten pattern
   pub labels : Keyed mostLongest pattern → take size pattern ≡ minRepeat pattern
+  pub gives : Keyed mostLongest pattern → times count (take size pattern) ≡ pattern
 
 -- a pattern that is its own minimum repeat
 unfoldable pub own? : List ℕ → Bool

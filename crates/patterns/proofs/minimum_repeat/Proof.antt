@@ -1,26 +1,32 @@
--- `patterns::minimum_repeat` meets its contract.
+-- `patterns::minimum_repeat` meets its contract: the recursion gives the length, and it divides the pattern's.
 use mathlib.Core.Path.{sym, _∙_}
 use native.Mathlib.Omega.{arith}
 use borrow.Author.Needs.{needs}
+use Rattle.model.specs.Limits.{mostLongest}
+use Rattle.model.specs.Patterns.{Keyed}
 use Rattle.model.proofs.Tests.{test-yields}
 use Rattle.model.proofs.Patterns.{test-keyed}
-use Rattle.patterns.proofs.Lengths.{folded-keyed, folded-not}
+use Rattle.patterns.proofs.Lengths.{found-some, folded-found, folded-not, from-first, written-not}
 use Rattle.patterns.proofs.minimum_repeat.Statement.{statement}
 use Rattle.patterns.proofs.minimum_repeat.Tie as tie
 
 is-keyed-requires : tie.Need-is-keyed-requires
 is-keyed-requires c κs = search needs
 
+keyed : (c : tie.Then1) → Keyed mostLongest (c .before .before .before .args .pattern .now)
+keyed c = test-yields (test-keyed _ _) (sym (c .before .is-keyed .ensures) ∙ c .if1 .taken)
+
 length-from-requires : tie.Need-length-from-requires
-length-from-requires c κs =
-    let k = test-yields (test-keyed _ _) (sym (c .before .is-keyed .ensures) ∙ c .if1 .taken) in
-    (omega arith, k .long)
+length-from-requires c κs = (omega arith, keyed c .long)
+
+div-t6 : tie.Need-div-t6
+div-t6 c = found-some _ (keyed (c .before)) (c .length-from .ensures ∙ from-first _)
 
 returns : tie.Need-returns
-returns c = c .length-from .ensures ∙ folded-keyed _ (sym (c .before .before .is-keyed .ensures) ∙ c .before .if1 .taken)
+returns c = folded-found _ (keyed (c .before)) (c .length-from .ensures ∙ from-first _)
 
 returns-2 : tie.Need-returns-2
-returns-2 c = folded-not _ (sym (c .before .is-keyed .ensures) ∙ c .if1 .left)
+returns-2 c = let none = sym (c .before .is-keyed .ensures) ∙ c .if1 .left in (folded-not _ none, written-not _ none)
 
 pub minimum-repeat-spec : {M : Type 1} → statement M
-minimum-repeat-spec = tie.close (tie.spec is-keyed-requires length-from-requires returns returns-2)
+minimum-repeat-spec = tie.close (tie.spec is-keyed-requires length-from-requires div-t6 returns returns-2)

@@ -11,12 +11,12 @@ abbrev spelled : tie.After-struct-known → tie.After-spell
 spelled c = c .before .before .before .before .before
 
 cast-result : tie.Need-cast-result
-cast-result c = omega (arith, c .before .minimum-repeat .ensures, folded-short (spelled c .spell .last .0))
+cast-result c = omega (arith, c .before .minimum-repeat .ensures .0, folded-short (spelled c .spell .last .0))
 
 returns : tie.Need-returns
 returns c =
     let (range, inside) = spelled c .before .before .before .pre in
-    c .before .minimum-repeat .ensures ∙ folded-at _ _ _ (range .0) (range .1) inside (spelled c .spell .ensures)
+    c .before .minimum-repeat .ensures .0 ∙ folded-at _ _ _ (range .0) (range .1) inside (spelled c .spell .ensures)
 
 pub length-at-spec : {M : Type 1} → statement M
 length-at-spec =

@@ -1,7 +1,8 @@
 -- `rlc_c::rlc_minimum_repeat_computed` meets its contract.
+use mathlib.Core.Path.{refl}
 use native.Mathlib.Omega.{arith}
 use borrow.Author.Needs.{needs}
-use Rattle.model.proofs.Patterns.{folded-short}
+use Rattle.model.proofs.Patterns.{folded-short, folds}
 use Rattle.rlc_c.proofs.rlc_minimum_repeat_computed.Statement.{statement}
 use Rattle.rlc_c.proofs.rlc_minimum_repeat_computed.Tie as tie
 
@@ -9,4 +10,4 @@ cast-result : tie.Need-cast-result
 cast-result c = omega (arith, c .before .minimum-repeat-computed .ensures .is, folded-short (c .before .before .before .args .pattern .now))
 
 pub rlc-minimum-repeat-computed-spec : {M : Type 1} → statement M
-rlc-minimum-repeat-computed-spec = tie.close (tie.spec (λ c κs. search needs) cast-result (λ c. c .before .minimum-repeat-computed .ensures))
+rlc-minimum-repeat-computed-spec = tie.close (tie.spec (λ c κs. search needs) cast-result (λ c. folds (c .before .minimum-repeat-computed .ensures .is, refl)))

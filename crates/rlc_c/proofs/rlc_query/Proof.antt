@@ -7,26 +7,29 @@ use borrow.Author.Needs.{needs}
 use Rattle.rlc_c.proofs.rlc_query.Statement.{statement}
 use Rattle.rlc_c.proofs.rlc_query.Tie as tie
 
-returns : tie.Need-returns
-returns c = rw (other (c .before .before .before .before .args .words .now) (c .if1 .taken)) untouched
+abbrev start : tie.After-slice-known → tie.Start
+start c = c .before .before .before .before .before
 
-enum-told : tie.Need-enum-told
-enum-told c = search needs
+returns : tie.Need-returns
+returns c = rw (other (start (c .before) .args .words .now) (c .if1 .taken)) untouched
 
 returns-2 : tie.Need-returns-2
 returns-2 c =
-    let call = c .before .before in
-    rw (two (call .before .before .before .before .before .before .args .words .now) (call .before .before .if1 .left)) (called answeredInC (rw (call .before .header-in .ensures) at (call .query .ensures)) (ap answeredInC (ap answeredOf (sym (c .enum-told .given .1)))))
+    let call = c .before .before .before .before in
+    let read = call .before .before in
+    rw (two (start (read .before .before) .args .words .now) (read .before .if1 .left)) (called answeredInC (rw (read .header-in .ensures) at (call .query .ensures)) (ap answeredInC (ap answeredOf (sym (c .enum-told .given .1)))))
 
 returns-3 : tie.Need-returns-3
 returns-3 c =
-    let call = c .before .before in
-    rw (two (call .before .before .before .before .before .before .args .words .now) (call .before .before .if1 .left)) (called answeredInC (rw (call .before .header-in .ensures) at (call .query .ensures)) (ap answeredInC (ap answeredOf (sym (c .enum-told2 .given .1)))))
+    let call = c .before .before .before .before in
+    let read = call .before .before in
+    rw (two (start (read .before .before) .args .words .now) (read .before .if1 .left)) (called answeredInC (rw (read .header-in .ensures) at (call .query .ensures)) (ap answeredInC (ap answeredOf (sym (c .enum-told2 .given .1)))))
 
 returns-4 : tie.Need-returns-4
 returns-4 c =
-    let call = c .before .before .before .before in
-    rw (two (call .before .before .before .before .before .before .args .words .now) (call .before .before .if1 .left)) (called answeredInC (rw (call .before .header-in .ensures) at (call .query .ensures)) (c .refusal-number .ensures ∙ ap answeredInC (ap answeredOf (sym (c .before .before .reply .given .1)))))
+    let call = c .before .before .before .before .before .before in
+    let read = call .before .before in
+    rw (two (start (read .before .before) .args .words .now) (read .before .if1 .left)) (called answeredInC (rw (read .header-in .ensures) at (call .query .ensures)) (c .refusal-number .ensures ∙ ap answeredInC (ap answeredOf (sym (c .before .before .reply .given .1)))))
 
 pub rlc-query-spec : {M : Type 1} → statement M
 rlc-query-spec =
@@ -35,10 +38,13 @@ rlc-query-spec =
     returns
     (λ c κs. search needs)
     (λ c κs. search needs)
-    enum-told
+    (λ c. search needs)
     (λ c. search needs)
     (λ c. search needs)
     (λ c κs. search needs)
+    (λ c. search needs)
     returns-2
+    (λ c. search needs)
     returns-3
+    (λ c. search needs)
     returns-4)

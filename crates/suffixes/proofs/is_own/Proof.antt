@@ -8,7 +8,7 @@ minimum-repeat-requires : tie.Need-minimum-repeat-requires
 minimum-repeat-requires c κs = search needs
 
 returns : tie.Need-returns
-returns c = own-length _ _ (c .before .before .pre) (c .minimum-repeat .ensures)
+returns c = own-length _ _ (c .before .before .pre) (c .minimum-repeat .ensures .0)
 
 pub is-own-spec : {M : Type 1} → statement M
 is-own-spec = tie.close (tie.spec minimum-repeat-requires returns)
