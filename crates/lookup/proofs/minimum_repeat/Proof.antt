@@ -30,9 +30,6 @@ looked-up : (c : tie.After-length-at) → c .length-at .result ≡ length (minRe
 looked-up c =
     c .length-at .ensures ∙ ap (λ (i : ℕ). getD repeatLengths i 0) (c .before .place .ensures) ∙ defined-there _ (keyed (c .before .before .before))
 
-div-t9 : tie.Need-div-t9
-div-t9 c = found-some _ (keyed (c .before .before .before)) (looked-up c)
-
 returns : tie.Need-returns
 returns c = folded-found _ (keyed (c .before .before .before)) (looked-up c)
 
@@ -41,4 +38,12 @@ returns-2 c = let none = sym (c .before .is-keyed .ensures) ∙ c .if1 .left in 
 
 pub minimum-repeat-spec : {M : Type 1} → statement M
 minimum-repeat-spec =
-    tie.close (tie.spec (λ c κs. search needs) (λ c κs. keyed (c .before)) length-at-requires (λ c. search needs) div-t9 returns returns-2)
+    tie.close
+    (tie.spec
+    (λ c κs. search needs)
+    (λ c κs. keyed (c .before))
+    length-at-requires
+    (λ c. search needs)
+    (λ c. found-some _ (keyed (c .before .before .before)) (looked-up c))
+    returns
+    returns-2)

@@ -19,9 +19,6 @@ keyed c = test-yields (test-keyed _ _) (sym (c .before .is-keyed .ensures) ∙ c
 length-from-requires : tie.Need-length-from-requires
 length-from-requires c κs = (omega arith, keyed c .long)
 
-div-t6 : tie.Need-div-t6
-div-t6 c = found-some _ (keyed (c .before)) (c .length-from .ensures ∙ from-first _)
-
 returns : tie.Need-returns
 returns c = folded-found _ (keyed (c .before)) (c .length-from .ensures ∙ from-first _)
 
@@ -29,4 +26,11 @@ returns-2 : tie.Need-returns-2
 returns-2 c = let none = sym (c .before .is-keyed .ensures) ∙ c .if1 .left in (folded-not _ none, written-not _ none)
 
 pub minimum-repeat-spec : {M : Type 1} → statement M
-minimum-repeat-spec = tie.close (tie.spec is-keyed-requires length-from-requires div-t6 returns returns-2)
+minimum-repeat-spec =
+    tie.close
+    (tie.spec
+    is-keyed-requires
+    length-from-requires
+    (λ c. found-some _ (keyed (c .before)) (c .length-from .ensures ∙ from-first _))
+    returns
+    returns-2)
