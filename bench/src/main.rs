@@ -17,7 +17,7 @@ extern "C" {
     ) -> u64;
     fn bench_query(
         vertices: u32, longest: u32, start: u32, destination: u32, pattern: *const u8, p: usize,
-        index: *const u64, slots: usize,
+        edges: *const u32, m: usize, index: *const u64, slots: usize, work: *mut u64, w: usize,
     ) -> u32;
     fn bench_sort(staged: *mut u64, n: usize, sorted: *mut u64, m: usize);
 }
@@ -35,8 +35,10 @@ fn proved_build(longest: u32, edges: &[u32], order: &mut [u8; 256], index: &mut 
     }
 }
 
+/// By a pattern that is written once: edge and work memory are not looked at, and none is lent.
 fn proved_query(longest: u32, s: u32, t: u32, pattern: &[u8], index: &[u64]) -> u32 {
-    unsafe { bench_query(VERTICES, longest, s, t, pattern.as_ptr(), pattern.len(), index.as_ptr(), index.len()) }
+    let (p, n, slots) = (pattern.as_ptr(), pattern.len(), index.len());
+    unsafe { bench_query(VERTICES, longest, s, t, p, n, [].as_ptr(), 0, index.as_ptr(), slots, [].as_mut_ptr(), 0) }
 }
 
 /// The caller's numbers are distinct and below 2^40, as the sort requires.

@@ -22,6 +22,11 @@ pub fn print_times(name: &str, proved: Vec<f64>, rust: Vec<f64>, note: String) {
 
 /// The head of a table: what is timed, and the unit.
 pub fn heading(what: &str, unit: &str) {
-    println!("\n{what:<16} {:>13}   {:>19}   {:>19}", "proved / Rust", format!("proved, {unit}"), format!("Rust, {unit}"));
+    heading_of(what, unit, "proved", "Rust");
+}
+
+/// The same, by the names of what is timed side by side.
+pub fn heading_of(what: &str, unit: &str, first: &str, second: &str) {
+    println!("\n{what:<16} {:>13}   {:>19}   {:>19}", format!("{first} / {second}"), format!("{first}, {unit}"), format!("{second}, {unit}"));
     println!("{:<16} {:>6} {:>6}   {:>9} {:>9}   {:>9} {:>9}", "", "least", "median", "least", "median", "least", "median");
 }

@@ -1,5 +1,6 @@
 //! Times the public calls through the C interface beside Rust programs, in one run: a lay, the plain check, a query against a fresh
-//! search, and the folding of patterns. Both take turns; buffers are as the last repetition left them.
+//! search, and the folding of patterns; and a query by a pattern keyed twice beside the calls that it is made of. Both take turns; buffers are
+//! as the last repetition left them.
 
 #[path = "../folding.rs"]
 mod folding;
@@ -14,7 +15,7 @@ mod search;
 mod timing;
 
 use layouts::{Layout, Random, VERTICES};
-use timing::{heading, millis, print_times};
+use timing::{heading, heading_of, millis, print_times};
 
 #[rustfmt::skip]
 extern "C" {
@@ -23,7 +24,7 @@ extern "C" {
     fn rlc_remove(record: *mut u32, n: usize, from: u32, label: u32, to: u32, edges: *mut u32, m: usize,
                   index: *mut u64, slots: usize, work: *mut u64, w: usize) -> u32;
     fn rlc_query(record: *const u32, n: usize, start: u32, destination: u32, pattern: *const u8, p: usize,
-                 index: *const u64, slots: usize) -> u32;
+                 edges: *const u32, m: usize, index: *const u64, slots: usize, work: *mut u64, w: usize) -> u32;
     fn rlc_search(record: *const u32, n: usize, start: u32, destination: u32, pattern: *const u8, p: usize, limit: u32,
                   edges: *const u32, m: usize, work: *mut u64, w: usize) -> u64;
     fn rlc_minimum_repeat(pattern: *const u8, p: usize) -> u32;
@@ -54,9 +55,22 @@ impl Lent {
         unsafe { call(self.record.as_mut_ptr(), 2, x / 4096, x / 256 % 16, x % 256, edges, m, index, slots, work, w) }
     }
 
-    fn query(&self, s: u32, t: u32, pattern: &[u8]) -> u32 {
-        let (index, slots) = (self.index.as_ptr(), self.index.len());
-        unsafe { rlc_query(self.record.as_ptr(), 2, s, t, pattern.as_ptr(), pattern.len(), index, slots) }
+    /// The query with the least work memory.
+    fn query(&mut self, s: u32, t: u32, pattern: &[u8]) -> u32 {
+        self.query_with(s, t, pattern, self.edges.len())
+    }
+
+    /// The query with so many edge slots.
+    fn query_with(&mut self, s: u32, t: u32, pattern: &[u8], m: usize) -> u32 {
+        let (record, p, n) = (self.record.as_ptr(), pattern.as_ptr(), pattern.len());
+        let (edges, index, slots, work) = (self.edges.as_ptr(), self.index.as_ptr(), self.index.len(), self.work.as_mut_ptr());
+        unsafe { rlc_query(record, 2, s, t, p, n, edges, m, index, slots, work, 4096) }
+    }
+
+    /// What a query by a pattern that repeats itself costs up to check 12 and no further: with 1,025 edge slots, which are not looked at, it is
+    /// refused by 3.
+    fn check(&mut self, s: u32, t: u32, pattern: &[u8]) -> u32 {
+        self.query_with(s, t, pattern, 1025)
     }
 
     /// The plain check with the least work memory.
@@ -130,6 +144,32 @@ fn time_queries(name: &str, lent: &mut Lent, questions: usize) {
     print_times(name, proved, rust, format!("{questions} queries"));
 }
 
+/// A pattern of at most k labels, written twice or more.
+fn repeated(random: &mut Random, longest: u32) -> Vec<u8> {
+    let (length, times) = if longest == 2 { (1, 2) } else { [(1, 2), (1, 3), (1, 4), (2, 2)][random.below(4) as usize] };
+    let once: Vec<u8> = (0..length).map(|_| 1 + random.below(4) as u8).collect();
+    once.repeat(times)
+}
+
+/// Queries by a pattern keyed twice, against a plain check by the same pattern and the query's checks up to 12, in five turns: the mean of each.
+fn time_twice(name: &str, lent: &mut Lent, questions: usize) {
+    let mut random = Random(10);
+    let (mut queries, mut parts) = (vec![0.0; 5], vec![0.0; 5]);
+    for _ in 0..questions {
+        let (s, t) = (random.below(VERTICES), random.below(VERTICES));
+        let pattern = repeated(&mut random, lent.record[1]);
+        for turn in 0..5 {
+            let (time, a) = millis(|| lent.query(s, t, &pattern));
+            queries[turn] += time * 1e3 / questions as f64;
+            let (search, b) = millis(|| lent.search(s, t, &pattern));
+            let (check, c) = millis(|| lent.check(s, t, &pattern));
+            parts[turn] += (search + check) * 1e3 / questions as f64;
+            assert_eq!((a as u64, c), (b >> 32, 3));
+        }
+    }
+    print_times(name, queries, parts, format!("{questions} queries"));
+}
+
 type Fold = unsafe extern "C" fn(*const u8, usize) -> u32;
 
 /// Folds of all patterns, or of those of one length, in random order: ns a fold, by a leaf and by a lookup in Rust.
@@ -179,5 +219,9 @@ fn main() {
     heading("query / search", "us");
     for (name, lent) in &mut held {
         time_queries(name, lent, 100);
+    }
+    heading_of("keyed twice", "us", "query", "parts");
+    for (name, lent) in &mut held {
+        time_twice(name, lent, 100);
     }
 }

@@ -176,7 +176,7 @@ folds {l} (e, q) = record {
 take-in : (n : ℕ) {x : ℕ} (l : List ℕ) → x ∈ take n l → x ∈ l
 take-in n {x} l m = rw (take-append-drop n l) at (Memᴰ·append-left (drop n l) m)
 
--- "Before any question or plain check a pattern is folded to its minimum repeat": that is a pattern of the index
+-- the minimum repeat of a pattern is a pattern of the index
 pub folded : {k : ℕ} {l : List ℕ} → Keyed k l → Pattern k (minRepeat l)
 folded {k} {l} p = record {
   keyed = record {

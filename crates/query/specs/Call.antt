@@ -1,18 +1,17 @@
--- The query's checks that come before that of index memory, and what follows it for a pattern that repeats itself.
+-- The query's call in its parts: the checks that come before that of index memory, and what follows them, for a pattern that is written once and
+-- for one that repeats itself.
 use mathlib.Core.List.{List, [], _∷_}
-use Prim.Native.Nat.{ℕ, _≤_, _<_}
+use Prim.Native.Nat.{ℕ}
 use lib.Dec.{leb}
 use lib.ListN.{length}
-use Rattle.model.specs.Limits.{mostVertices, mostLongest, leastWork}
-use Rattle.model.specs.Edges.{standing}
-use Rattle.model.specs.Patterns.{Keyed}
+use Rattle.model.specs.Limits.{leastWork}
 use Rattle.model.specs.Query.{Answered, Refused}
-use Rattle.model.specs.Computed.Edges.{bare, edgeMemory?}
+use Rattle.model.specs.Computed.Edges.{edgeMemory?}
 use Rattle.model.specs.Computed.Patterns.{keyed?}
-use Rattle.model.specs.Computed.Levels.{runs?}
+use Rattle.model.specs.Computed.Query.{indexMemory?}
 use Rattle.calls.specs.Checks.{vertices?, longest?, ends?, Check, firstRefusal}
-use Rattle.calls.specs.Call.{Header, Memory, cleared, Outcome, refusing}
-use Rattle.calls.specs.Query.{saying}
+use Rattle.calls.specs.Call.{Header, Memory, Outcome, refusing}
+use Rattle.calls.specs.Query.{byIndex, bySearch}
 
 module _ (h : Header) (start destination : ℕ) (pattern : List ℕ) where
   abbrev pub earlierChecks : List Check
@@ -21,19 +20,15 @@ module _ (h : Header) (start destination : ℕ) (pattern : List ℕ) where
   unfoldable pub earlierRefusal : ℕ
   earlierRefusal = firstRefusal earlierChecks
 
--- what the earlier checks leave for a search
-pub record Askable (vertices start destination : ℕ) (pattern : List ℕ) : Type 0 where
-  pub vertices-small : vertices ≤ mostVertices
-  pub start-vertex : start < vertices
-  pub destination-vertex : destination < vertices
-  pub keyed : Keyed mostLongest pattern
+  -- "Where that count is one, the index replies as before."
+  unfoldable pub askedCall : Memory → Outcome Answered
+  askedCall m =
+      refusing Refused m (firstRefusal ((12, indexMemory? (h .vertices) (h .longest) (m .index)) ∷ [])) (byIndex h start destination pattern m)
 
--- "checks 3 and 4 follow 12": by edge and work memory
-abbrev pub laterRefusal : ℕ → Memory → ℕ
-laterRefusal vertices m = firstRefusal ((3, edgeMemory? vertices (m .edges)) ∷ (4, leb leastWork (length (m .work))) ∷ [])
+  -- "checks 3 and 4 follow 12, for such a pattern only"
+  abbrev pub laterChecks : Memory → List Check
+  laterChecks m = (3, edgeMemory? (h .vertices) (m .edges)) ∷ (4, leb leastWork (length (m .work))) ∷ []
 
--- then the pattern is searched as keyed
-unfoldable pub searchedCall : (vertices start destination : ℕ) (pattern : List ℕ) → Memory → Outcome Answered
-searchedCall vertices start destination pattern m =
-    refusing Refused m (laterRefusal vertices m)
-    (record { reply = saying (runs? (bare vertices (standing (m .edges))) pattern start destination); memory = cleared m })
+  unfoldable pub searchedCall : Memory → Outcome Answered
+  searchedCall m =
+      refusing Refused m (firstRefusal ((12, indexMemory? (h .vertices) (h .longest) (m .index)) ∷ laterChecks m)) (bySearch h start destination pattern m)

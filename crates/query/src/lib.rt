@@ -6,11 +6,12 @@ use model::QueryReply;
 use model::Refusal;
 use scan::Extent;
 ghost use mathlib.Core.Path.{_≡_};
-ghost use mathlib.Core.List.{[]};
+ghost use mathlib.Core.List.{List};
+ghost use Prim.Native.Nat.{ℕ};
 ghost use Rattle.model.specs.Replies.{answerOf, answeredOf};
 ghost use Rattle.calls.specs.Call.{lent, Meets};
 ghost use Rattle.calls.specs.Query.{saying, queryCall};
-ghost use Rattle.query.specs.Call.{earlierRefusal, Askable, searchedCall};
+ghost use Rattle.query.specs.Call.{earlierRefusal, askedCall, searchedCall};
 
 // The checks before that of index memory, in their order: 1, 2, 10 and 11.
 fn check(vertices: u32, longest: u32, start: u32, destination: u32, pattern: &[u8]) -> Answer
@@ -36,23 +37,52 @@ fn say(yes: bool) -> QueryReply
     if yes { QueryReply::Yes } else { QueryReply::No }
 }
 
-// What follows check 12 for a pattern that repeats itself: checks 3 and 4, then a search by the pattern as keyed.
+// Past the earlier checks, the query by a pattern that is written once: check 12, then the index replies. Edge and work memory play no part.
+fn ask(
+    vertices: u32,
+    longest: u32,
+    start: u32,
+    destination: u32,
+    pattern: &[u8],
+    index: &[u64],
+) -> QueryReply
+    requires { ⌜ earlierRefusal (record { vertices = vertices; longest = longest }) start destination (now pattern) ≡ 0 ⌝ }
+    ensures { λ r. ⌜
+        ((edges work : List ℕ) → Meets (askedCall (record { vertices = vertices; longest = longest }) start destination (now (pattern .entry))
+        (lent edges (now (index .entry)) work)) (answeredOf r) (lent edges (now (index .entry)) work))
+        ⌝ }
+{
+    let scanned = scan::scan(vertices, longest, index);
+    let Extent::Entries(n) = scanned else {
+        return QueryReply::Refused(Refusal::IndexMemory);
+    };
+    say(answer::answer(&index[..n], start, destination, pattern))
+}
+
+// The same by a pattern that repeats itself: checks 12, 3 and 4, then a search by the pattern as keyed.
 fn search(
     vertices: u32,
+    longest: u32,
     start: u32,
     destination: u32,
     pattern: &[u8],
     edges: &[u32],
+    index: &[u64],
     work: &mut [u64],
 ) -> QueryReply
-    requires { ⌜ Askable vertices start destination (now pattern) ⌝ }
+    requires { ⌜ earlierRefusal (record { vertices = vertices; longest = longest }) start destination (now pattern) ≡ 0 ⌝ }
     ensures { λ r. ⌜
-        Meets (searchedCall vertices start destination (now (pattern .entry)) (lent (now (edges .entry)) [] (now (work .entry))))
-        (answeredOf r) (lent (now (edges .entry)) [] (now (work .exit)))
+        Meets (searchedCall (record { vertices = vertices; longest = longest }) start destination (now (pattern .entry))
+        (lent (now (edges .entry)) (now (index .entry)) (now (work .entry))))
+        (answeredOf r) (lent (now (edges .entry)) (now (index .entry)) (now (work .exit)))
         ⌝ }
 {
-    let scanned = edges::scan(vertices, edges);
-    let Scanned::Edges(n) = scanned else {
+    let scanned = scan::scan(vertices, longest, index);
+    let Extent::Entries(_) = scanned else {
+        return QueryReply::Refused(Refusal::IndexMemory);
+    };
+    let standing = edges::scan(vertices, edges);
+    let Scanned::Edges(n) = standing else {
         return QueryReply::Refused(Refusal::EdgeMemory);
     };
     if work.len() < LEAST_WORK {
@@ -61,7 +91,7 @@ fn search(
     say(level_search::is_run(vertices, &edges[..n], pattern, start, destination, work))
 }
 
-// The query for all inputs. The index replies if the pattern is written once; edge and work memory are then not looked at.
+// The query for all inputs. Check 12 is called in either part: called once, it would be compiled into the whole, and its loop be slower.
 pub fn query(
     vertices: u32,
     longest: u32,
@@ -82,13 +112,18 @@ pub fn query(
     if let Answer::Refused(refusal) = checked {
         return QueryReply::Refused(refusal);
     }
-    let scanned = scan::scan(vertices, longest, index);
-    let Extent::Entries(n) = scanned else {
-        return QueryReply::Refused(Refusal::IndexMemory);
-    };
     let folded = patterns::minimum_repeat(pattern);
     if folded.times != 1 {
-        return search(vertices, start, destination, pattern, edges, work);
+        return search(
+            vertices,
+            longest,
+            start,
+            destination,
+            pattern,
+            edges,
+            index,
+            work,
+        );
     }
-    say(answer::answer(&index[..n], start, destination, pattern))
+    ask(vertices, longest, start, destination, pattern, index)
 }
