@@ -3,7 +3,6 @@
 use build::Built;
 use model::QueryReply;
 ghost use mathlib.Core.Path.{_≡_};
-ghost use mathlib.Core.List.{[]};
 ghost use lib.ListN.{length};
 ghost use Rattle.calls.specs.Call.{lent};
 ghost use Rattle.calls.specs.Query.{queryCall};

@@ -14,12 +14,12 @@ use Rattle.model.specs.Query.{Refused}
 use Rattle.model.specs.Computed.Edges.{edgeMemory?}
 use Rattle.model.specs.Computed.Patterns.{keyed?, once?}
 use Rattle.model.specs.Computed.Levels.{runs?}
-use Rattle.model.specs.Computed.Query.{indexMemory?, answers?}
+use Rattle.model.specs.Computed.Query.{indexMemory?}
 use Rattle.model.proofs.Tests.{Tests, test-true, test-false, test-yields}
 use Rattle.model.proofs.Patterns.{test-keyed, test-once, keyed-up}
 use Rattle.model.proofs.Search.{test-runs}
 use Rattle.calls.specs.Checks.{vertices?, longest?, ends?, Check}
-use Rattle.calls.specs.Call.{Header, graphOf, Memory, cleared, Outcome}
+use Rattle.calls.specs.Call.{Header, graphOf, Memory}
 use Rattle.calls.specs.Query.{saying, queryRefusal, byIndex, bySearch, queryCall}
 use Rattle.calls.proofs.Checks.{bounded, test-ends}
 use Rattle.calls.proofs.Passing.{passing}

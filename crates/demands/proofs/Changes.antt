@@ -12,7 +12,7 @@ use Rattle.model.specs.Lists.{_∈_, keep, mem?, filled}
 use Rattle.model.specs.Edges.{edgeNumber, standing}
 use Rattle.model.specs.Computed.Edges.{edge?, label?, edgeMemory?, insertEdge, removeEdge}
 use Rattle.model.specs.Computed.Entries.{determined}
-use Rattle.model.proofs.Tests.{Tests, test-true, test-false, test-yields, test-fails, test-map, test-agree, test-not, test-and, test-eq, test-le, test-lt, test-mem}
+use Rattle.model.proofs.Tests.{Tests, test-false, test-yields, test-fails, test-map, test-agree, test-not, test-and, test-eq, test-le, test-lt, test-mem}
 use Rattle.model.proofs.Lists.{keep-in, keep-out}
 use Rattle.model.proofs.Edges.{edge-named}
 use Rattle.model.proofs.Insertion.{length-insert, member-insert, rising-insert, length-remove, member-remove, rising-remove}

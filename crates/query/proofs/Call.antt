@@ -1,7 +1,7 @@
 -- The query's checks in their order; then, from what they leave, the query on the entries or the search, and from what it finds the call's reply.
 use mathlib.Core.Path.{_≡_, refl, ap, _∙_}
 use mathlib.Core.Bool.{Bool, true, false, _||_}
-use mathlib.Core.List.{List, [], _∷_, _++_}
+use mathlib.Core.List.{List, [], _∷_}
 use Prim.Native.Nat.{ℕ, _≤_, _<_}
 use native.Mathlib.Omega.{arith}
 use borrow.Author.Tests.{le-leb}
@@ -27,8 +27,9 @@ use Rattle.model.proofs.IndexMemory.{index-memory, answers-alone}
 use Rattle.calls.specs.Checks.{Check, firstRefusal}
 use Rattle.calls.specs.Call.{Header, graphOf, Memory, lent, Meets}
 use Rattle.calls.specs.Query.{saying, queryRefusal, byIndex, bySearch, queryCall}
-use Rattle.calls.proofs.Checks.{First, none, pass, stop, first-is, passes, Passed, done, also, bounded, test-ends}
+use Rattle.calls.proofs.Checks.{First, none, pass, stop, first-is, passes, done, also, bounded, test-ends}
 use Rattle.calls.proofs.Calls.{refused-meets, accepted-is}
+use Rattle.calls.proofs.Change.{stop-first, pass-first}
 use Rattle.scan.specs.Memory.{extentOf}
 use Rattle.scan.specs.declared.Extent.the-variants.{Entries}
 use Rattle.scan.proofs.Scanning.{scans}
@@ -36,19 +37,6 @@ use Rattle.answer.specs.Saying.{Answerable, Says}
 use Rattle.edges.proofs.Memory.{Scans}
 use Rattle.level_search.specs.Run.{Searchable, Finds}
 use Rattle.query.specs.Call.{earlierChecks, earlierRefusal, askedCall, laterChecks, searchedCall}
-
--- ---- checks followed by others
-
-first-stop : (l later : List Check) {n : ℕ} → firstRefusal l ≡ n → 1 ≤ n → firstRefusal (l ++ later) ≡ n
-unfolding firstRefusal
-first-stop [] later e h = absurd (omega arith)
-first-stop ((m, true) ∷ l) later e h = first-stop l later e h
-first-stop ((m, false) ∷ l) later e h = e
-
-first-later : {l : List Check} (later : List Check) → Passed l → firstRefusal (l ++ later) ≡ firstRefusal later
-unfolding firstRefusal
-first-later later done = refl
-first-later later (also e p) = rw e (first-later later p)
 
 -- what checks 1, 2, 10 and 11 leave
 pub record Allowed (h : Header) (start destination : ℕ) (pattern : List ℕ) : Type 0 where
@@ -68,13 +56,13 @@ module _ (h : Header) (start destination : ℕ) (pattern : List ℕ) (m : Memory
   -- one of the earlier checks refuses
   pub query-refused : (r : Refusal) → earlierRefusal h start destination pattern ≡ numberOf r → Meets (queryCall h start destination pattern m) (Refused (numberOf r)) m
   unfolding queryCall earlierRefusal queryRefusal
-  query-refused r e = refused-meets Refused m _ (queryRefusal h start destination pattern m) r (first-stop (earlierChecks h start destination pattern) last e (number-some r))
+  query-refused r e = refused-meets Refused m _ (queryRefusal h start destination pattern m) r (stop-first (earlierChecks h start destination pattern) last e (number-some r))
 
   -- they have passed: what the call comes to, by how often the pattern was written
   module _ (passed : earlierRefusal h start destination pattern ≡ 0) where
     refusal-is : queryRefusal h start destination pattern m ≡ firstRefusal last
     unfolding earlierRefusal queryRefusal
-    refusal-is = first-later last (passes (earlierChecks h start destination pattern) tt passed)
+    refusal-is = pass-first (earlierChecks h start destination pattern) last tt passed
 
     pub is-asked : once? pattern ≡ true → queryCall h start destination pattern m ≡ askedCall h start destination pattern m
     unfolding queryCall askedCall firstRefusal

@@ -1,6 +1,5 @@
 -- `level_search::is_run` meets its contract: it is true exactly if the search's reply is yes.
 use mathlib.Core.Path.{_≡_, sym, ap}
-use mathlib.Core.Bool.{Bool}
 use borrow.Author.Needs.{needs}
 use Rattle.model.specs.Replies.{replyOf}
 use Rattle.model.specs.Computed.Levels.{isYes?}

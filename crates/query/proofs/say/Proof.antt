@@ -1,6 +1,5 @@
 -- `query::say` meets its contract.
 use mathlib.Core.Path.{refl}
-use borrow.Author.Needs.{needs}
 use Rattle.query.proofs.say.Statement.{statement}
 use Rattle.query.proofs.say.Tie as tie
 
