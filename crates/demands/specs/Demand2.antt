@@ -20,7 +20,7 @@ pub data Judged (g : Graph) (l : List ℕ) (s t : ℕ) : Answered → Type 0 whe
   runs : Runs g l s t → Judged g l s t Yes
   runs-not : ¬ Runs g l s t → Judged g l s t No
 
--- (a) queries (questions) put with a record and an index memory, to the standing edges of a graph, which those of an edge memory are
+-- (a) queries (questions) put with the record, edge memory and index memory that a change left; the edges that then stand are those of the graph
 pub record Right (h : Header) (edges index : List ℕ) (g : Graph) : Type 0 where
   -- a pattern that is its own minimum repeat is judged rightly whatever edge and work memory are lent
   pub once : (start destination : ℕ) (pattern : List ℕ) → start < g .vertices → destination < g .vertices → Pattern (g .longest) pattern
