@@ -82,9 +82,9 @@ uint32_t rlc_remove(uint32_t *record, size_t record_n, uint32_t from, uint32_t l
  * - Written once, as 1 or 1,2 or 1,2,1: the index replies. Edges and work are not looked at and stay as they are;
  *   both may have length 0. On the record and index memory that the last accepted change left the reply is right.
  * - Repeating itself, as 1,1 or 1,2,1,2: the index has no such pattern, so the call costs a search of the edges
- *   (as rlc_search does) after the check of index memory. It needs edge memory and 4,096 numbers of work memory,
- *   which are zero afterwards unless the call is refused. On the record, edge and index memory that the last
- *   accepted change left the reply is right. */
+ *   (as rlc_search does) after the check of index memory. It reads edge memory, and needs at least 4,096 numbers
+ *   of work memory; unless the call is refused, all the work memory lent is zero afterwards. On the record, edge
+ *   and index memory that the last accepted change left the reply is right. */
 uint32_t rlc_query(const uint32_t *record, size_t record_n, uint32_t start, uint32_t destination, const uint8_t *pattern, size_t pattern_n,
                    const uint32_t *edges, size_t edges_n, const uint64_t *index, size_t index_n, uint64_t *work, size_t work_n);
 

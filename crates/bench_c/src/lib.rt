@@ -9,7 +9,7 @@ ghost use Rattle.calls.specs.Query.{queryCall};
 ghost use Rattle.sort.specs.Order.{Distinct, FiveBytes, Sorts};
 ghost use Rattle.order.specs.Counting.{Countable, Counts};
 ghost use Rattle.build.specs.Build.{Buildable};
-ghost use Rattle.bench_c.specs.Bench.{BuildsNumber, answerNumber};
+ghost use Rattle.bench_c.specs.Bench.{BuildsNumber, QueriesNumber};
 
 // The access order, as order::counted.
 #[no_mangle]
@@ -56,8 +56,8 @@ pub extern "C" fn bench_query(
     work: &mut [u64],
 ) -> u32
     ensures { λ r. ⌜
-        r ≡ answerNumber (queryCall (record { vertices = vertices; longest = longest }) start destination (now (pattern .entry))
-        (lent (now (edges .entry)) (now (index .entry)) (now (work .entry))) .reply)
+        QueriesNumber (queryCall (record { vertices = vertices; longest = longest }) start destination (now (pattern .entry))
+        (lent (now (edges .entry)) (now (index .entry)) (now (work .entry)))) r (now (work .exit))
         ⌝ }
 {
     let reply = query::query(

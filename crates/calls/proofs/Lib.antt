@@ -4,3 +4,4 @@ pub mod Change
 pub mod Card
 pub mod Settling
 pub mod Passing
+pub mod Query

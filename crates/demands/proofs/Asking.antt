@@ -2,26 +2,26 @@
 use mathlib.Core.Path.{_≡_, refl}
 use mathlib.Core.Bool.{Bool, true, false, _||_}
 use mathlib.Core.List.{List, [], _∷_}
-use Prim.Native.Nat.{ℕ, zero, suc, _<_}
+use Prim.Native.Nat.{ℕ, zero, suc}
 use native.Mathlib.Omega.{arith}
 use lib.Dec.{leb}
 use lib.ListN.{length}
-use Rattle.model.specs.Limits.{mostLongest, leastWork}
-use Rattle.model.specs.Edges.{Graph, Bounds, standing}
-use Rattle.model.specs.Patterns.{Keyed, MinRepeat}
+use Rattle.model.specs.Limits.{leastWork}
+use Rattle.model.specs.Edges.{Graph, standing}
+use Rattle.model.specs.Patterns.{MinRepeat}
 use Rattle.model.specs.Walks.{Runs}
 use Rattle.model.specs.Query.{Refused}
 use Rattle.model.specs.Computed.Edges.{edgeMemory?}
 use Rattle.model.specs.Computed.Patterns.{keyed?, once?}
 use Rattle.model.specs.Computed.Levels.{runs?}
 use Rattle.model.specs.Computed.Query.{indexMemory?}
-use Rattle.model.proofs.Tests.{Tests, test-true, test-false, test-yields}
-use Rattle.model.proofs.Patterns.{test-keyed, test-once, keyed-up}
+use Rattle.model.proofs.Tests.{Tests, test-true, test-false}
+use Rattle.model.proofs.Patterns.{test-once}
 use Rattle.model.proofs.Search.{test-runs}
 use Rattle.calls.specs.Checks.{vertices?, longest?, ends?, Check}
 use Rattle.calls.specs.Call.{Header, graphOf, Memory}
 use Rattle.calls.specs.Query.{saying, queryRefusal, byIndex, bySearch, queryCall}
-use Rattle.calls.proofs.Checks.{bounded, test-ends}
+use Rattle.calls.proofs.Query.{Allowed, allowed, within}
 use Rattle.calls.proofs.Passing.{passing}
 use Rattle.demands.specs.Demand1.{queryNumber}
 use Rattle.demands.specs.Demand2.{Judged, runs, runs-not}
@@ -30,10 +30,6 @@ use Rattle.demands.specs.Demand2.{Judged, runs, runs-not}
 pub judged : {g : Graph} {l : List ℕ} {s t : ℕ} (b : Bool) → Tests b (Runs g l s t) → Judged g l s t (saying b)
 judged true p = runs (p .yields tt)
 judged false p = runs-not (p .passes)
-
--- a pattern as keyed is within every k
-pub within : {k : ℕ} {l : List ℕ} {vertices : ℕ} → Bounds vertices k → Keyed k l → Keyed mostLongest l
-within b p = keyed-up (b .longest-most) p
 
 module _ (h : Header) (s t : ℕ) (l : List ℕ) (m : Memory) where
   abbrev checks : List Check
@@ -60,33 +56,25 @@ module _ (h : Header) (s t : ℕ) (l : List ℕ) (m : Memory) where
       go zero q = q
       go (suc n) q = absurd (let z : suc n ≡ 0 = rw (number-refuses q) at e in omega (arith, z))
 
-  -- what the checks leave
-  pub record Asked : Type 0 where
-    pub bounds : Bounds (h .vertices) (h .longest)
-    pub start : s < h .vertices
-    pub destination : t < h .vertices
-    pub keyed : Keyed mostLongest l
-
   module _ (none : queryRefusal h s t l m ≡ 0) where
-    pub asked : Asked
-    asked =
-        let (v, (k, (ends, (keyed, _)))) = passing checks tt (unfold queryRefusal in none) in
-        let b : Bounds (h .vertices) (h .longest) = bounded v k in
-        let (hs, ht) = test-yields (test-ends (h .vertices) s t) ends in
-        record { bounds = b; start = hs; destination = ht; keyed = within b (test-yields (test-keyed (h .longest) l) keyed) }
+    given : Allowed h s t l
+    given = let (v, (k, (ends, (keyed, _)))) = passing checks tt (unfold queryRefusal in none) in allowed h s t l v k ends keyed
+
+    own? : Tests (once? l) (MinRepeat l l)
+    own? = test-once l (within (given .bounds) (given .keyed))
 
     -- by a pattern that is its own minimum repeat, the index's reply; by one that is not, the search's
     pub once-is : MinRepeat l l → queryCall h s t l m ≡ byIndex h s t l m
     unfolding queryCall
-    once-is own = rw (none, test-true (test-once l (asked .keyed)) own) refl
+    once-is own = rw (none, test-true own? own) refl
 
     pub repeats-is : ¬ MinRepeat l l → queryCall h s t l m ≡ bySearch h s t l m
     unfolding queryCall
-    repeats-is more = rw (none, test-false (test-once l (asked .keyed)) more) refl
+    repeats-is more = rw (none, test-false own? more) refl
 
     -- which is right about the edges that stand
     pub search-right : ¬ MinRepeat l l → Judged (graphOf h (standing (m .edges))) l s t (queryCall h s t l m .reply)
     search-right more =
-        let a = asked in
+        let a = given in
         let g = graphOf h (standing (m .edges)) in
-        rw (repeats-is more) (judged (runs? g l s t) (test-runs g l (a .bounds .vertices-most) (a .keyed .long) s t (a .start) (a .destination)))
+        rw (repeats-is more) (judged (runs? g l s t) (test-runs g l (a .bounds .vertices-most) (a .keyed .long) s t (a .start-vertex) (a .destination-vertex)))

@@ -17,6 +17,7 @@ use Rattle.model.proofs.Order.{counted-names}
 use Rattle.calls.specs.Call.{lent, Outcome}
 use Rattle.calls.specs.Query.{saying, queryRefusal}
 use Rattle.calls.proofs.Checks.{none, pass, first-is, bounds-pass, test-ends}
+use Rattle.calls.proofs.Query.{within}
 use Rattle.demands.specs.Ledger.{Given, opening, insertion, removal, card, Fed, Book, rising, bookEntries, ruling, turnWith, turn, LedgerReply, ledger}
 use Rattle.demands.specs.Run.Station.{Call, Station, changeOn, change, run, fedBy, fedAll}
 use Rattle.demands.specs.Run.Demand3.{Demand3Holds}
@@ -27,7 +28,7 @@ use Rattle.demands.proofs.Changes.{insert-matches, remove-matches}
 use Rattle.demands.proofs.Openings.{open-begins, open-first, open-matches}
 use Rattle.demands.proofs.Cards.{read-begins, read-first, read-matches}
 use Rattle.demands.proofs.Rising.{rising-rises, rising-out}
-use Rattle.demands.proofs.Asking.{within, once-is}
+use Rattle.demands.proofs.Asking.{once-is}
 use Rattle.demands.proofs.Right.{Standable, right}
 
 -- ---- one call after another

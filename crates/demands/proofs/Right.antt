@@ -33,8 +33,9 @@ use Rattle.calls.proofs.Checks.{First, none, pass, stop, first-is, bounded, bou
 use Rattle.calls.proofs.Change.{ChangeGood, change-good, front-passes}
 use Rattle.calls.proofs.Settling.{settledChange, Result, settled, with-number, accepted-zero}
 use Rattle.calls.proofs.Passing.{passing}
+use Rattle.calls.proofs.Query.{within}
 use Rattle.demands.specs.Demand2.{Judged, Right, RightAfter}
-use Rattle.demands.proofs.Asking.{judged, within, number-refuses, once-is, search-right}
+use Rattle.demands.proofs.Asking.{judged, number-refuses, once-is, search-right}
 use Rattle.demands.proofs.Index.{whole-passes, answer-right}
 use Rattle.demands.proofs.Openings.{no-entries, blank-filled}
 use Rattle.demands.proofs.Reading.{read-said}

@@ -1,4 +1,5 @@
--- Demand 2: replies are right on the record and index that the last accepted change left, and cards restore what they were written from.
+-- Demand 2: replies are right on the record and index that the last accepted change left, for a pattern that repeats itself on its edges too, and
+-- cards restore what they were written from.
 use mathlib.Core.Path.{_≡_}
 use mathlib.Core.List.{List, [], _++_}
 use Prim.Native.Nat.{ℕ, _+_, _≤_, _<_}
@@ -29,7 +30,8 @@ pub record Right (h : Header) (edges index : List ℕ) (g : Graph) : Type 0 wher
   pub repeating : (start destination : ℕ) (pattern : List ℕ) → start < g .vertices → destination < g .vertices → Keyed (g .longest) pattern
       → ¬ MinRepeat pattern pattern → (work : List ℕ) → leastWork ≤ length work
       → Judged g pattern start destination (queryCall h start destination pattern (lent edges index work) .reply)
-  -- every other question is refused: by less work memory, by its ends, by its pattern
+  -- every other question is refused: by such a pattern with those edges and less work memory; and, whatever is lent, with an end that is no vertex
+  -- or by what is no pattern
   pub less : (start destination : ℕ) (pattern : List ℕ) → start < g .vertices → destination < g .vertices → Keyed (g .longest) pattern
       → ¬ MinRepeat pattern pattern → (work : List ℕ) → length work < leastWork
       → queryCall h start destination pattern (lent edges index work) .reply ≡ Refused 4

@@ -2,11 +2,12 @@
 use mathlib.Core.Path.{_≡_, refl, ap, _∙_}
 use mathlib.Core.Bool.{Bool}
 use mathlib.Core.List.{List}
-use Prim.Native.Nat.{ℕ, _≤_}
+use Prim.Native.Nat.{ℕ, _≤_, _<_}
 use native.Mathlib.Omega.{arith}
 use lib.ListN.{length, take}
 use Rattle.model.specs.Limits.{enoughLevels}
-use Rattle.model.specs.Edges.{standing}
+use Rattle.model.specs.Edges.{Bounds, standing}
+use Rattle.model.specs.Patterns.{Keyed}
 use Rattle.model.specs.States.{Refused}
 use Rattle.model.specs.Replies.{numberOf, replyOf}
 use Rattle.model.specs.Computed.Edges.{bare}
@@ -19,7 +20,19 @@ use Rattle.calls.specs.Call.{Header, Memory, Meets}
 use Rattle.calls.specs.Search.{searchRefusal, searchCall}
 use Rattle.calls.proofs.Calls.{refused-meets, accepted-is}
 use Rattle.checks.proofs.LayoutChecks.{layout-header, layout-memory}
-use Rattle.level_search.specs.Run.{SearchPasses, Searchable, Searches, Finds}
+use Rattle.level_search.specs.Run.{SearchPasses, Searchable, Searches, Tells}
+
+-- over the n edges that stand in edge memory, from one vertex to another by a pattern as keyed
+pub searchable-over : {vertices longest s t n : ℕ} {edges pattern : List ℕ} → Bounds vertices longest → Scans vertices edges n → Keyed longest pattern
+    → s < vertices → t < vertices → Searchable vertices (take n edges) pattern s t
+searchable-over b e k s t = rw (e .front) (record {
+  vertices-small = b .vertices-most;
+  rises = e .rising;
+  valid = e .edges;
+  short = record { least = k .long; most = omega (arith, k .short, b .longest-most) };
+  start = s;
+  destination = t;
+})
 
 module _ {h : Header} {s t : ℕ} {pattern : List ℕ} {m : Memory} {n : ℕ} (p : SearchPasses h s t pattern m n) where
   edge-memory : Scans (h .vertices) (m .edges) n
@@ -29,14 +42,7 @@ module _ {h : Header} {s t : ℕ} {pattern : List ℕ} {m : Memory} {n : ℕ} (p
   part-edges = edge-memory .within
 
   pub searchable : Searchable (h .vertices) (take n (m .edges)) pattern s t
-  searchable = rw (edge-memory .front) (record {
-    vertices-small = layout-header (p .layout) .vertices-most;
-    rises = edge-memory .rising;
-    valid = edge-memory .edges;
-    short = record { least = p .keyed .long; most = omega (arith, p .keyed .short, layout-header (p .layout) .longest-most) };
-    start = p .start-vertex;
-    destination = p .destination-vertex;
-  })
+  searchable = searchable-over (layout-header (p .layout)) edge-memory (p .keyed) (p .start-vertex) (p .destination-vertex)
 
   pub meets : {limit : ℕ} {r : SearchReply} {work′ : List ℕ} → Searches (h .vertices) (take n (m .edges)) pattern s t limit (m .work) r work′
       → Meets (searchCall h s t pattern limit m) (replyOf r) (record { edges = m .edges; index = m .index; work = work′; output = m .output })
@@ -59,7 +65,7 @@ search-refused h s t pattern limit m r e = refused-meets Refused m _ (searchRefu
 
 -- whether the reply is yes
 pub finds : {vertices : ℕ} {edges l : List ℕ} {s t : ℕ} {work work′ : List ℕ} {r : SearchReply} {found : Bool} → Searchable vertices edges l s t
-    → Searches vertices edges l s t enoughLevels work r work′ → found ≡ isYes? (replyOf r) → Finds vertices edges l s t work found work′
+    → Searches vertices edges l s t enoughLevels work r work′ → found ≡ isYes? (replyOf r) → Tells vertices edges l s t work found work′
 finds {vertices} {edges} {l} {s} {t} p f e = record {
   is = e ∙ ap isYes? (f .reply)
       ∙ yes-runs (bare vertices edges) l (p .vertices-small) (p .short .least) s t (p .start) (p .destination) enoughLevels (omega arith) (p .short .most);

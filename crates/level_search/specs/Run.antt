@@ -37,7 +37,7 @@ pub record Searches (vertices : ℕ) (edges l : List ℕ) (s t limit : ℕ) (wor
   pub work-after : work′ ≡ zeroed work
 
 -- the same for as many levels as always suffice: whether a walk runs l, and work memory ends zero
-pub record Finds (vertices : ℕ) (edges l : List ℕ) (s t : ℕ) (work : List ℕ) (found : Bool) (work′ : List ℕ) : Type 0 where
+pub record Tells (vertices : ℕ) (edges l : List ℕ) (s t : ℕ) (work : List ℕ) (found : Bool) (work′ : List ℕ) : Type 0 where
   pub is : found ≡ runs? (bare vertices edges) l s t
   pub work-after : work′ ≡ zeroed work
 

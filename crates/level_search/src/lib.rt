@@ -20,7 +20,7 @@ ghost use Rattle.edges.specs.Slots.{Under, Starts};
 ghost use Rattle.calls.specs.Call.{lent, Meets};
 ghost use Rattle.calls.specs.Search.{searchCall};
 ghost use Rattle.level_search.specs.Work.{Room, Grown, Ahead, LedTo, Fit, Short};
-ghost use Rattle.level_search.specs.Run.{Searchable, foundBy, Searches, Finds, SearchChecks};
+ghost use Rattle.level_search.specs.Run.{Searchable, foundBy, Searches, Tells, SearchChecks};
 
 // The model's number, in the width of a level limit.
 const ENOUGH_LEVELS: u32 = model::ENOUGH_LEVELS as u32;
@@ -176,7 +176,7 @@ pub fn is_run(
     work: &mut [u64],
 ) -> bool
     requires { ⌜ Searchable vertices (now edges) (now pattern) s t × (leastWork ≤ length (now work)) ⌝ }
-    ensures { λ r. ⌜ Finds vertices (now (edges .entry)) (now (pattern .entry)) s t (now (work .entry)) r (now (work .exit)) ⌝ }
+    ensures { λ r. ⌜ Tells vertices (now (edges .entry)) (now (pattern .entry)) s t (now (work .entry)) r (now (work .exit)) ⌝ }
 {
     let reply = run(vertices, edges, pattern, s, t, ENOUGH_LEVELS, work);
     match reply {

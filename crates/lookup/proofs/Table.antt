@@ -79,7 +79,7 @@ agrees : (table : List ℕ) → T (tested? table) → (l : List ℕ) → lookedU
 unfolding lookedUp
 agrees table t l = both-ways (keyed? tableLongest l)
     (λ e. let p = test-yields (test-keyed tableLongest l) e in rw e (entry-is table t (place l) (place-inside l p) ∙ found l p))
-    (λ e. rw e (folded-not l e))
+    (λ e. rw e (folded-not l e .0))
 
 pub table-meaning : TableMeaning
 table-meaning = record {

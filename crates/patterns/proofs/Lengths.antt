@@ -69,14 +69,10 @@ module _ (l : List ℕ) (d : ℕ) (h : (1 ≤ d) × (d ≤ length l)) where
 
 -- ---- the minimum repeat of a pattern, and how often it was written
 
--- 0 of what is no pattern
-pub folded-not : (l : List ℕ) → keyed? mostLongest l ≡ false → 0 ≡ foldedLength l
-unfolding foldedLength
-folded-not l e = rw e
-
-pub written-not : (l : List ℕ) → keyed? mostLongest l ≡ false → 0 ≡ timesWritten l
-unfolding timesWritten
-written-not l e = rw e
+-- both are 0 of what is no pattern
+pub folded-not : (l : List ℕ) → keyed? mostLongest l ≡ false → (0 ≡ foldedLength l) × (0 ≡ timesWritten l)
+unfolding foldedLength timesWritten
+folded-not l e = rw e (refl, refl)
 
 -- by the length of the minimum repeat, whoever found it
 pub found-some : (l : List ℕ) → Keyed mostLongest l → {n : ℕ} → n ≡ length (minRepeat l) → 1 ≤ n

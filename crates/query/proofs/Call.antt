@@ -2,13 +2,13 @@
 use mathlib.Core.Path.{_≡_, refl, ap, _∙_}
 use mathlib.Core.Bool.{Bool, true, false, _||_}
 use mathlib.Core.List.{List, [], _∷_}
-use Prim.Native.Nat.{ℕ, _≤_, _<_}
+use Prim.Native.Nat.{ℕ, _≤_}
 use native.Mathlib.Omega.{arith}
 use borrow.Author.Tests.{le-leb}
 use lib.Dec.{leb}
 use lib.ListN.{length, take}
 use Rattle.model.specs.Limits.{mostLongest, leastWork}
-use Rattle.model.specs.Edges.{standing, Bounds}
+use Rattle.model.specs.Edges.{standing}
 use Rattle.model.specs.Patterns.{Keyed}
 use Rattle.model.specs.Query.{Refused}
 use Rattle.model.specs.Replies.{numberOf}
@@ -18,8 +18,6 @@ use Rattle.model.specs.Computed.Levels.{runs?}
 use Rattle.model.specs.Computed.Query.{entry?, indexMemory?, answers?}
 use Rattle.model.specs.declared.Refusal.{Refusal}
 use Rattle.model.specs.declared.Refusal.the-variants.{IndexMemory}
-use Rattle.model.proofs.Tests.{test-yields}
-use Rattle.model.proofs.Patterns.{test-keyed, keyed-up}
 use Rattle.model.proofs.Replies.{number-some}
 use Rattle.model.proofs.Search.{runs-as}
 use Rattle.model.proofs.Zeros.{Ordered, filled-within, filled-front}
@@ -27,23 +25,18 @@ use Rattle.model.proofs.IndexMemory.{index-memory, answers-alone}
 use Rattle.calls.specs.Checks.{Check, firstRefusal}
 use Rattle.calls.specs.Call.{Header, graphOf, Memory, lent, Meets}
 use Rattle.calls.specs.Query.{saying, queryRefusal, byIndex, bySearch, queryCall}
-use Rattle.calls.proofs.Checks.{First, none, pass, stop, first-is, passes, done, also, bounded, test-ends}
+use Rattle.calls.proofs.Checks.{First, none, pass, stop, first-is, passes, done, also}
 use Rattle.calls.proofs.Calls.{refused-meets, accepted-is}
 use Rattle.calls.proofs.Change.{stop-first, pass-first}
+use Rattle.calls.proofs.Query.{Allowed, allowed, within}
 use Rattle.scan.specs.Memory.{extentOf}
 use Rattle.scan.specs.declared.Extent.the-variants.{Entries}
 use Rattle.scan.proofs.Scanning.{scans}
 use Rattle.answer.specs.Saying.{Answerable, Says}
 use Rattle.edges.proofs.Memory.{Scans}
-use Rattle.level_search.specs.Run.{Searchable, Finds}
+use Rattle.level_search.specs.Run.{Searchable, Tells}
+use Rattle.level_search.proofs.Call.{searchable-over}
 use Rattle.query.specs.Call.{earlierChecks, earlierRefusal, askedCall, laterChecks, searchedCall}
-
--- what checks 1, 2, 10 and 11 leave
-pub record Allowed (h : Header) (start destination : ℕ) (pattern : List ℕ) : Type 0 where
-  pub bounds : Bounds (h .vertices) (h .longest)
-  pub start-vertex : start < h .vertices
-  pub destination-vertex : destination < h .vertices
-  pub keyed : Keyed (h .longest) pattern
 
 module _ (h : Header) (start destination : ℕ) (pattern : List ℕ) (m : Memory) where
   abbrev last : List Check
@@ -75,9 +68,7 @@ module _ (h : Header) (start destination : ℕ) (pattern : List ℕ) (m : Memory
 pub earlier-leaves : (h : Header) (start destination : ℕ) (pattern : List ℕ) → earlierRefusal h start destination pattern ≡ 0 → Allowed h start destination pattern
 unfolding earlierRefusal
 earlier-leaves h start destination pattern e = elim (passes (earlierChecks h start destination pattern) tt e) [
-  | also v (also k (also ends (also keyed done))) ↦
-      let (s, t) = test-yields (test-ends (h .vertices) start destination) ends in
-      record { bounds = bounded v k; start-vertex = s; destination-vertex = t; keyed = test-yields (test-keyed (h .longest) pattern) keyed }
+  | also v (also k (also ends (also keyed done))) ↦ allowed h start destination pattern v k ends keyed
 ]
 
 -- ---- a pattern that is written once
@@ -87,7 +78,7 @@ module _ (h : Header) (s t : ℕ) (pattern index : List ℕ) (passed : earlierRe
   given = earlier-leaves h s t pattern passed
 
   keyed : Keyed mostLongest pattern
-  keyed = keyed-up (given .bounds .longest-most) (given .keyed)
+  keyed = within (given .bounds) (given .keyed)
 
   pub asked-refused : indexMemory? (h .vertices) (h .longest) index ≡ false → (edges work : List ℕ)
       → Meets (askedCall h s t pattern (lent edges index work)) (Refused (numberOf IndexMemory)) (lent edges index work)
@@ -138,14 +129,7 @@ pub searchable : (h : Header) (s t : ℕ) (pattern : List ℕ) {n : ℕ} {edges 
     → Searchable (h .vertices) (take n edges) pattern s t
 searchable h s t pattern passed e =
     let a = earlier-leaves h s t pattern passed in
-    rw (e .front) (record {
-      vertices-small = a .bounds .vertices-most;
-      rises = e .rising;
-      valid = e .edges;
-      short = record { least = a .keyed .long; most = omega (arith, a .keyed .short, a .bounds .longest-most) };
-      start = a .start-vertex;
-      destination = a .destination-vertex;
-    })
+    searchable-over (a .bounds) e (a .keyed) (a .start-vertex) (a .destination-vertex)
 
 module _ (h : Header) (s t : ℕ) (pattern : List ℕ) (edges index work : List ℕ) where
   abbrev m : Memory
@@ -157,7 +141,7 @@ module _ (h : Header) (s t : ℕ) (pattern : List ℕ) (edges index work : List 
   searched-refused r f = refused-meets Refused m _ _ r (first-is f)
 
   pub searched : {n : ℕ} {found : Bool} {work′ : List ℕ} → indexMemory? (h .vertices) (h .longest) index ≡ true → Scans (h .vertices) edges n
-      → leastWork ≤ length work → Finds (h .vertices) (take n edges) pattern s t work found work′
+      → leastWork ≤ length work → Tells (h .vertices) (take n edges) pattern s t work found work′
       → Meets (searchedCall h s t pattern m) (saying found) (lent edges index work′)
   unfolding searchedCall
   searched {found = found} valid e room f =

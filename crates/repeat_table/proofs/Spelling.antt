@@ -12,17 +12,17 @@ use Rattle.model.specs.Computed.Patterns.{words}
 use Rattle.model.proofs.Table.{words-last}
 
 -- the labels from i on are spelled, and those before them are the word at `rest`
-pub record Spelled (n number : ℕ) (word : List ℕ) (i rest : ℕ) : Type 0 where
+pub record SpelledFrom (n number : ℕ) (word : List ℕ) (i rest : ℕ) : Type 0 where
   pub long : length word ≡ n
   pub low : i ≤ n
   pub small : rest < mostLabel ^ i
   pub is : getD (words i) rest [] ++ drop i word ≡ getD (words n) number []
 
-pub spelled-none : (number : ℕ) (word : List ℕ) → number < mostLabel ^ length word → Spelled (length word) number word (length word) number
+pub spelled-none : (number : ℕ) (word : List ℕ) → number < mostLabel ^ length word → SpelledFrom (length word) number word (length word) number
 spelled-none number word h = record { long = refl; low = omega arith; small = h; is = rw (drop-length word, append-nil) }
 
-pub spelled-more : {n number : ℕ} {word : List ℕ} {i rest : ℕ} → Spelled n number word i rest → 0 < i
-    → Spelled n number (set word (i - 1) (rest % mostLabel + 1)) (i - 1) (rest / mostLabel)
+pub spelled-more : {n number : ℕ} {word : List ℕ} {i rest : ℕ} → SpelledFrom n number word i rest → 0 < i
+    → SpelledFrom n number (set word (i - 1) (rest % mostLabel + 1)) (i - 1) (rest / mostLabel)
 spelled-more {n} {number} {word} {i} {rest} s h = record {
   long = length-set word (i - 1) (rest % mostLabel + 1) ∙ s .long;
   low = omega (arith, s .low);
@@ -51,7 +51,7 @@ spelled-more {n} {number} {word} {i} {rest} s h = record {
         rw (next, div-add-mod' rest mostLabel)
         at (words-last (i - 1) (rest / mostLabel) (rest % mostLabel) (omega (arith, s .small, power)) (mod-lt rest (omega arith)))
 
-pub spelled-all : {n number : ℕ} {word : List ℕ} {i rest : ℕ} → Spelled n number word i rest → i ≤ 0 → word ≡ getD (words n) number []
+pub spelled-all : {n number : ℕ} {word : List ℕ} {i rest : ℕ} → SpelledFrom n number word i rest → i ≤ 0 → word ≡ getD (words n) number []
 unfolding words
 spelled-all {i = i} {rest = rest} s h =
     let none : i ≡ 0 = omega arith in

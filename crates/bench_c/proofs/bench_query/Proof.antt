@@ -1,19 +1,18 @@
--- `bench_c::bench_query` meets its contract: the number of the reply that the query ensures. Assumes nothing.
-use mathlib.Core.Path.{sym, ap, _∙_}
+-- `bench_c::bench_query` meets its contract: the number of the reply that the query ensures, and its work memory.
+use mathlib.Core.Path.{_≡_, sym, ap, _∙_}
 use Rattle.model.specs.Replies.{answeredOf}
-use Rattle.bench_c.specs.Bench.{answerNumber}
+use Rattle.model.specs.Query.{Answered}
+use Rattle.model.specs.declared.QueryReply.{QueryReply}
+use Rattle.calls.specs.Call.{Memory, Outcome, Meets}
+use Rattle.bench_c.specs.Bench.{answerNumber, QueriesNumber}
 use borrow.Author.Needs.{needs}
 use Rattle.bench_c.proofs.bench_query.Statement.{statement}
 use Rattle.bench_c.proofs.bench_query.Tie as tie
 
-returns : tie.Need-returns
-returns c = ap answerNumber (ap answeredOf (sym (c .enum-told .given .1)) ∙ c .before .before .before .before .query .ensures .reply-is)
-
-returns-2 : tie.Need-returns-2
-returns-2 c = ap answerNumber (ap answeredOf (sym (c .enum-told2 .given .1)) ∙ c .before .before .before .before .query .ensures .reply-is)
-
-returns-3 : tie.Need-returns-3
-returns-3 c = ap answerNumber (ap answeredOf (sym (c .enum-told3 .given .1)) ∙ c .before .before .before .before .query .ensures .reply-is)
+-- the number of the reply that was told, and work memory as the query left it
+told : {call : Outcome Answered} {reply : QueryReply} {m : Memory} (r : QueryReply) → reply ≡ r → Meets call (answeredOf reply) m
+    → QueriesNumber call (answerNumber (answeredOf r)) (m .work)
+told r e q = record { reply-is = ap answerNumber (ap answeredOf (sym e) ∙ q .reply-is); work-after = q .work-after }
 
 pub bench-query-spec : {M : Type 1} → statement M
 bench-query-spec =
@@ -24,8 +23,8 @@ bench-query-spec =
     (λ c. search needs)
     (λ c. search needs)
     (λ c. search needs)
-    returns
+    (λ c. told _ (c .enum-told .given .1) (c .before .before .before .before .query .ensures))
     (λ c. search needs)
-    returns-2
+    (λ c. told _ (c .enum-told2 .given .1) (c .before .before .before .before .query .ensures))
     (λ c. search needs)
-    returns-3)
+    (λ c. told _ (c .enum-told3 .given .1) (c .before .before .before .before .query .ensures)))

@@ -4,7 +4,7 @@ use borrow.Author.Needs.{needs}
 use Rattle.model.specs.Replies.{replyOf}
 use Rattle.model.specs.Computed.Levels.{isYes?}
 use Rattle.model.specs.declared.SearchReply.{SearchReply}
-use Rattle.level_search.specs.Run.{Finds}
+use Rattle.level_search.specs.Run.{Tells}
 use Rattle.level_search.proofs.Call.{finds}
 use Rattle.level_search.proofs.is_run.Statement.{statement}
 use Rattle.level_search.proofs.is_run.Tie as tie
@@ -14,7 +14,7 @@ start c = c .before .before .before .before .before .before .before
 
 -- by whatever reply it was
 by-reply : (c : tie.After-slice-known2) {r : SearchReply} → c .before .before .run .result ≡ r
-    → Finds (start c .args .vertices) (start c .args .edges .now) (start c .args .pattern .now) (start c .args .s) (start c .args .t) (start c .args .work .now)
+    → Tells (start c .args .vertices) (start c .args .edges .now) (start c .args .pattern .now) (start c .args .s) (start c .args .t) (start c .args .work .now)
     (isYes? (replyOf r)) (c .before .before .run .last .1 .1 .1 .1 .1 .1 .0)
 by-reply c e = finds (start c .pre .0) (c .before .before .run .ensures) (sym (ap (λ (r : SearchReply). isYes? (replyOf r)) e))
 

@@ -12,7 +12,7 @@ use Rattle.model.specs.Computed.Patterns.{repeatFrom, minRepeat, words, keyedPa
 use Rattle.model.specs.Computed.Table.{repeatLengths, place}
 use Rattle.model.proofs.Tests.{test-yields}
 use Rattle.model.proofs.Patterns.{test-keyed}
-use Rattle.patterns.proofs.Lengths.{found-some, folded-found, folded-not, written-not}
+use Rattle.patterns.proofs.Lengths.{found-some, folded-found, folded-not}
 use Rattle.lookup.specs.Table.{tested?}
 use Rattle.lookup.proofs.Table.{place-inside, defined-there}
 use Rattle.lookup.proofs.minimum_repeat.Statement.{statement}
@@ -34,7 +34,7 @@ returns : tie.Need-returns
 returns c = folded-found _ (keyed (c .before .before .before)) (looked-up c)
 
 returns-2 : tie.Need-returns-2
-returns-2 c = let none = sym (c .before .is-keyed .ensures) ∙ c .if1 .left in (folded-not _ none, written-not _ none)
+returns-2 c = folded-not _ (sym (c .before .is-keyed .ensures) ∙ c .if1 .left)
 
 pub minimum-repeat-spec : {M : Type 1} → statement M
 minimum-repeat-spec =

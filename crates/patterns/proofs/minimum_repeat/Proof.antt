@@ -6,7 +6,7 @@ use Rattle.model.specs.Limits.{mostLongest}
 use Rattle.model.specs.Patterns.{Keyed}
 use Rattle.model.proofs.Tests.{test-yields}
 use Rattle.model.proofs.Patterns.{test-keyed}
-use Rattle.patterns.proofs.Lengths.{found-some, folded-found, folded-not, from-first, written-not}
+use Rattle.patterns.proofs.Lengths.{found-some, folded-found, folded-not, from-first}
 use Rattle.patterns.proofs.minimum_repeat.Statement.{statement}
 use Rattle.patterns.proofs.minimum_repeat.Tie as tie
 
@@ -23,7 +23,7 @@ returns : tie.Need-returns
 returns c = folded-found _ (keyed (c .before)) (c .length-from .ensures ∙ from-first _)
 
 returns-2 : tie.Need-returns-2
-returns-2 c = let none = sym (c .before .is-keyed .ensures) ∙ c .if1 .left in (folded-not _ none, written-not _ none)
+returns-2 c = folded-not _ (sym (c .before .is-keyed .ensures) ∙ c .if1 .left)
 
 pub minimum-repeat-spec : {M : Type 1} → statement M
 minimum-repeat-spec =

@@ -1,12 +1,12 @@
--- `repeat_table::spell` meets its contract. The invariant: the labels from i on are spelled (`Spelled`).
+-- `repeat_table::spell` meets its contract. The invariant: the labels from i on are spelled (`SpelledFrom`).
 use native.Mathlib.Omega.{arith}
 use lib.ListN.{length}
-use Rattle.repeat_table.proofs.Spelling.{Spelled, spelled-none, spelled-more, spelled-all}
+use Rattle.repeat_table.proofs.Spelling.{SpelledFrom, spelled-none, spelled-more, spelled-all}
 use Rattle.repeat_table.proofs.spell.Statement.{statement}
 use Rattle.repeat_table.proofs.spell.Tie as tie
 
 abbrev Inv-loop : tie.InvT-loop
-Inv-loop word₀ number rest₀ i₀ word rest i = Spelled (length word₀) number word i rest
+Inv-loop word₀ number rest₀ i₀ word rest i = SpelledFrom (length word₀) number word i rest
 
 abbrev μ-loop : tie.MeasureT-loop
 μ-loop word₀ number rest₀ i₀ word rest i = i
