@@ -12,15 +12,16 @@
  *   edges    edge memory, 0 to 1,024 slots: one edge a slot, from * 4096 + label * 256 + to, strictly rising, then zeros
  *   index    index memory, any number of slots: one entry a slot, strictly rising, then zeros
  *   work     at least 4,096 numbers; if an index is built (insert, remove, read card), one more for each index
- *            slot. Contents do not matter. Zero after an accepted call and after refusal 13, else untouched. A
- *            query uses it only if its pattern repeats itself (see rlc_query).
+ *            slot. Contents do not matter. Zero after an accepted call and after refusals 13 and 18, else untouched.
+ *            A query uses it only if its pattern repeats itself (see rlc_query).
+ *   walk     walk memory, any number of slots: a route's edges in running order, written as in edge memory
  *
  * A slice is a pointer and then its number of elements. Elements must be aligned as their C type asks. A slice
  * of 0 elements may have any pointer, NULL too. One memory must not be lent twice in one call, nor changed by
  * another thread or an interrupt while the call runs. Stack use, as measured on x86-64: below 24 KiB for insert,
  * remove and read card, 20 KiB for a query, 6 KiB for the minimum repeat from the table, 4 KiB for the others.
  *
- * A refused call changes nothing that was lent, except that refusal 13 zeroes work memory.
+ * A refused call changes nothing that was lent, except that refusals 13 and 18 zero work memory.
  */
 #ifndef RLC_H
 #define RLC_H
@@ -35,7 +36,7 @@ extern "C" {
 /* Replies. */
 enum {
     RLC_ACCEPTED = 0, /* of open, insert, remove, read card */
-    RLC_NO = 0,       /* of query and search */
+    RLC_NO = 0,       /* of query, search and route */
     RLC_YES = 100,
     RLC_SPENT = 101,   /* of search: neither yes nor no within the level limit */
     RLC_RECORD = 255   /* the record lent does not have 2 numbers */
@@ -59,7 +60,8 @@ enum {
     RLC_CARD_MARK = 14,     /* card under 9 bytes, or without its mark PRC */
     RLC_CARD_VERSION = 15,  /* card version not 1 */
     RLC_CARD_EDGES = 16,    /* card length not 9 + 3 * edges, or not rising edges of its layout */
-    RLC_CARD_OUTPUT = 17    /* output shorter than the card */
+    RLC_CARD_OUTPUT = 17,   /* output shorter than the card */
+    RLC_WALK_MEMORY = 18    /* walk memory shorter than the route; work memory is zero */
 };
 
 /* Opens an empty layout with the record's vertices and k: zeroes edge and index memory. Refusals 1 2 3.
@@ -94,6 +96,14 @@ uint32_t rlc_query(const uint32_t *record, size_t record_n, uint32_t start, uint
  * with levels 0. A record without 2 numbers gives 255 * 2^32. */
 uint64_t rlc_search(const uint32_t *record, size_t record_n, uint32_t start, uint32_t destination, const uint8_t *pattern, size_t pattern_n,
                     uint32_t level_limit, const uint32_t *edges, size_t edges_n, uint64_t *work, size_t work_n);
+
+/* Gives the route: of the walks that run the pattern as keyed those with the fewest edges, and of these the one whose
+ * edges, compared by their numbers one after another from the start, come first. Its edges are written to the front
+ * of walk memory in running order, and nothing behind them is touched; 1,024 slots always suffice.
+ * Refusals 1 2 3 4 10 11, and last 18. Returns reply * 2^32 + number of edges: reply 100 with the edges, 0 no (and
+ * walk memory is untouched), else the refusal with 0. A record without 2 numbers gives 255 * 2^32. */
+uint64_t rlc_route(const uint32_t *record, size_t record_n, uint32_t start, uint32_t destination, const uint8_t *pattern, size_t pattern_n,
+                   const uint32_t *edges, size_t edges_n, uint32_t *walk, size_t walk_n, uint64_t *work, size_t work_n);
 
 /* Reads a card: edge and index memory are then those of a fresh layout that received the card's edges, and the
  * card's vertices and k are written to the record. Refusals 14 15 2 16 3 9 4 13; the record is then untouched.

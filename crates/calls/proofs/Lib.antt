@@ -5,3 +5,4 @@ pub mod Card
 pub mod Settling
 pub mod Passing
 pub mod Query
+pub mod Route

@@ -24,6 +24,10 @@ pub record Memory : Type 0 where
 abbrev pub lent : (edges index work : List ℕ) → Memory
 lent edges index work = record { edges = edges; index = index; work = work; output = [] }
 
+-- edge and work memory with an output, and no index memory
+abbrev pub lentOut : (edges work output : List ℕ) → Memory
+lentOut edges work output = record { edges = edges; index = []; work = work; output = output }
+
 -- the same with work memory zero, over its whole lent length
 abbrev pub cleared : Memory → Memory
 cleared m = record { edges = m .edges; index = m .index; work = zeroed (m .work); output = m .output }

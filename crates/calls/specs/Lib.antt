@@ -1,6 +1,7 @@
 pub mod Checks
 pub mod Call
 pub mod Search
+pub mod Route
 pub mod Query
 pub mod Change
 pub mod Card

@@ -1,5 +1,5 @@
 -- The question on any record and memory: what its checks leave, and what it replies once they have passed.
-use mathlib.Core.Path.{_≡_, refl}
+use mathlib.Core.Path.{_≡_, refl, ap}
 use mathlib.Core.Bool.{Bool, true, false, _||_}
 use mathlib.Core.List.{List, [], _∷_}
 use Prim.Native.Nat.{ℕ, zero, suc}
@@ -10,7 +10,7 @@ use Rattle.model.specs.Limits.{leastWork}
 use Rattle.model.specs.Edges.{Graph, standing}
 use Rattle.model.specs.Patterns.{MinRepeat}
 use Rattle.model.specs.Walks.{Runs}
-use Rattle.model.specs.Query.{Refused}
+use Rattle.model.specs.Query.{Answered, Yes, No, Refused}
 use Rattle.model.specs.Computed.Edges.{edgeMemory?}
 use Rattle.model.specs.Computed.Patterns.{keyed?, once?}
 use Rattle.model.specs.Computed.Levels.{runs?}
@@ -26,10 +26,25 @@ use Rattle.calls.proofs.Passing.{passing}
 use Rattle.demands.specs.Demand1.{queryNumber}
 use Rattle.demands.specs.Demand2.{Judged, runs, runs-not}
 
+abbrev yes : Answered → ℕ
+yes Yes = 1
+yes No = 0
+yes (Refused n) = 0
+
 -- what a test of walks says
 pub judged : {g : Graph} {l : List ℕ} {s t : ℕ} (b : Bool) → Tests b (Runs g l s t) → Judged g l s t (saying b)
 judged true p = runs (p .yields tt)
 judged false p = runs-not (p .passes)
+
+-- a reply that is judged is yes exactly if a walk runs the pattern
+module _ {g : Graph} {l : List ℕ} {s t : ℕ} where
+  pub judged-runs : {r : Answered} → Judged g l s t r → r ≡ Yes → Runs g l s t
+  judged-runs (runs p) e = p
+  judged-runs (runs-not d) e = absurd (let z : 0 ≡ 1 = ap yes e in omega arith)
+
+  pub runs-judged : {r : Answered} → Judged g l s t r → Runs g l s t → r ≡ Yes
+  runs-judged (runs p) q = refl
+  runs-judged (runs-not d) q = absurd (d q)
 
 module _ (h : Header) (s t : ℕ) (l : List ℕ) (m : Memory) where
   abbrev checks : List Check

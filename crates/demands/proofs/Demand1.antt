@@ -1,34 +1,37 @@
 -- Demand 1 holds.
 use mathlib.Core.Path.{_≡_, refl, sym, ap, _∙_}
-use mathlib.Core.Logic.{_≢_}
-use mathlib.Core.Bool.{Bool, true, false, not, _&&_}
+use mathlib.Core.Logic.{inl, inr, ⊎-elim}
+use mathlib.Core.Bool.{Bool, true, false, not, _&&_, _||_}
 use mathlib.Core.List.{List, [], _∷_, _++_}
-use Prim.Native.Nat.{ℕ, zero, suc}
+use Prim.Native.Nat.{ℕ, zero, suc, _≤_}
 use native.Mathlib.Omega.{arith}
-use lib.ListN.{length, drop}
-use lib.Seq.{drop-append-seam}
-use lib.Dec.{T, eqb}
+use lib.ListN.{length, drop, take}
+use lib.Seq.{take-append-seam, drop-append-seam}
+use lib.Dec.{T, eqb, leb}
+use Rattle.model.specs.Lists.{zeroed}
 use Rattle.model.specs.Edges.{Graph, standing}
+use Rattle.model.specs.Routes.{Routed, Yes as RoutedYes, No as RoutedNo, Refused as RoutedRefused}
 use Rattle.model.specs.Query.{Answered}
 use Rattle.model.specs.States.{Reply, Refused}
 use Rattle.model.specs.Computed.Patterns.{once?}
 use Rattle.model.specs.Computed.Levels.{runs?}
 use Rattle.model.specs.Computed.Query.{answers?}
 use Rattle.model.specs.Levels.{Told, found, ended, stopped}
-use Rattle.model.proofs.Tests.{test-and, test-not, test-eq, test-T, both-ways}
+use Rattle.model.proofs.Tests.{Tests, test-and, test-or, test-not, test-eq, test-T, both-ways}
 use Rattle.model.proofs.Search.{told}
 use Rattle.calls.specs.Checks.{Check, firstRefusal}
 use Rattle.calls.specs.Call.{Header, graphOf, Memory, cleared, Outcome, refusing, Returned, Wrote, Length, Refused as NotWritten}
 use Rattle.calls.specs.Search.{searchRefusal, searchCall}
+use Rattle.calls.specs.Route.{lit, lighting, routeCall}
 use Rattle.calls.specs.Query.{saying, queryRefusal, queryCall}
 use Rattle.calls.specs.Change.{refusedWith, fits?, settle, openRefusal, openCall, insertRefusal, insertCall, removeRefusal, removeCall}
 use Rattle.calls.specs.Card.{readRefusal, readCall, cardOf, writeRefusal, writeCall}
-use Rattle.demands.specs.Demand1.{Keeps, ChangeKeeps, searchNumber, queryNumber, writeNumber, Leaves, Demand1}
+use Rattle.demands.specs.Demand1.{Zeroing, Keeps, ChangeKeeps, searchNumber, queryNumber, routeNumber, writeNumber, Leaves, LeavesWalk, Demand1}
 use Rattle.demands.proofs.Asking.{number-refuses, once-is, repeats-is}
 
 -- an accepted call refuses nothing
 accepted-keeps : {R : Type 0} {m : Memory} {c : Outcome R} {n : ℕ} → n ≡ 0 → Keeps m c n
-accepted-keeps e = record { refused = λ k _. absurd (omega (arith, e)); thirteen = λ q. absurd (omega (arith, e, q)) }
+accepted-keeps e = record { refused = λ k _. absurd (omega (arith, e)); zeroing = λ q. absurd (⊎-elim (λ z. omega (arith, e, z)) (λ z. omega (arith, e, z)) q) }
 
 -- ---- changing calls
 
@@ -40,24 +43,27 @@ settle-keeps given h wanted m = go (fits? h wanted m) refl
     go : (b : Bool) → fits? h wanted m ≡ b → ChangeKeeps given m (settle given h wanted m)
     go true e = rw e (record { keeps = accepted-keeps refl; header = λ k. absurd (omega arith); accepted = λ _. refl })
     go false e =
-        rw e (record { keeps = record { refused = λ _ d. absurd (d refl); thirteen = λ _. refl }; header = λ _. refl; accepted = λ q. absurd (omega (arith, q)) })
+        rw e (record { keeps = record { refused = λ _ d. absurd (d (inl refl)); zeroing = λ _. refl }; header = λ _. refl; accepted = λ q. absurd (omega (arith, q)) })
 
--- a refusal by the checks, none of which is 13
-with-keeps : (n : ℕ) → n ≢ 13 → (given : Header) (m : Memory) (c : Outcome Returned) → ChangeKeeps given m c → ChangeKeeps given m (refusing (refusedWith given) m n c)
+-- a refusal by the checks, none of which zeroes work memory
+with-keeps : (n : ℕ) → ¬ Zeroing n → (given : Header) (m : Memory) (c : Outcome Returned) → ChangeKeeps given m c → ChangeKeeps given m (refusing (refusedWith given) m n c)
 with-keeps zero d given m c k = k
 with-keeps (suc n) d given m c k =
-    record { keeps = record { refused = λ _ _. refl; thirteen = λ q. absurd (d q) }; header = λ _. refl; accepted = λ q. absurd (omega (arith, q)) }
+    record { keeps = record { refused = λ _ _. refl; zeroing = λ q. absurd (d q) }; header = λ _. refl; accepted = λ q. absurd (omega (arith, q)) }
 
--- none of these checks has that number
+-- none of these checks has such a number
 abbrev other? : List Check → Bool
 other? [] = true
-other? (c ∷ l) = not (eqb (c .0) 13) && other? l
+other? (c ∷ l) = not (eqb (c .0) 13 || eqb (c .0) 18) && other? l
 
-other-number : (l : List Check) → T (other? l) → firstRefusal l ≢ 13
+test-other : (n : ℕ) (l : List Check) → Tests (not (eqb n 13 || eqb n 18) && other? l) ((¬ Zeroing n) × T (other? l))
+test-other n l = test-and (test-not (test-or (test-eq n 13) (test-eq n 18))) (test-T (other? l))
+
+other-number : (l : List Check) → T (other? l) → ¬ Zeroing (firstRefusal l)
 unfolding firstRefusal
-other-number [] t e = omega (arith, e)
-other-number ((n, true) ∷ l) t e = other-number l ((test-and (test-not (test-eq n 13)) (test-T (other? l))) .yields t .1) e
-other-number ((n, false) ∷ l) t e = (test-and (test-not (test-eq n 13)) (test-T (other? l))) .yields t .0 e
+other-number [] t e = ⊎-elim (λ z. omega (arith, z)) (λ z. omega (arith, z)) e
+other-number ((n, true) ∷ l) t e = other-number l ((test-other n l) .yields t .1) e
+other-number ((n, false) ∷ l) t e = (test-other n l) .yields t .0 e
 
 opens-keeps : (h : Header) (m : Memory) → m .work ≡ [] → ChangeKeeps h m (openCall h m)
 unfolding openCall openRefusal
@@ -86,8 +92,8 @@ query-keeps h start destination pattern m = go (queryRefusal h start destination
     c : Outcome Answered
     c = queryCall h start destination pattern m
 
-    not-13 : queryRefusal h start destination pattern m ≢ 13
-    not-13 = unfold queryRefusal in other-number _ tt
+    others : ¬ Zeroing (queryRefusal h start destination pattern m)
+    others = unfold queryRefusal in other-number _ tt
 
     go : (n : ℕ) → queryRefusal h start destination pattern m ≡ n → Keeps m c (queryNumber (c .reply)) × (queryNumber (c .reply) ≡ 0 → Leaves pattern m (c .memory))
     go zero e = (
@@ -100,20 +106,64 @@ query-keeps h start destination pattern m = go (queryRefusal h start destination
     go (suc n) e =
         let told = number-refuses h start destination pattern m e in
         rw told (
-          record { refused = λ _ _. unfold queryCall in rw e refl; thirteen = λ q. absurd (not-13 (e ∙ q)) },
+          record { refused = λ _ _. unfold queryCall in rw e refl; zeroing = λ q. absurd (others (rw e q)) },
           λ q. absurd (omega (arith, q)),
         )
 
-told-none : {g : Graph} {l : List ℕ} {s t limit : ℕ} {r : Reply} → Told g l s t limit r → searchNumber r ≡ 0
+pub told-none : {g : Graph} {l : List ℕ} {s t limit : ℕ} {r : Reply} → Told g l s t limit r → searchNumber r ≡ 0
 told-none (found c h q m) = refl
 told-none (ended c h q m) = refl
 told-none (stopped q) = refl
 
-searched-keeps : (n : ℕ) → n ≢ 13 → (reply : Reply) → searchNumber reply ≡ 0 → (m : Memory) →
+searched-keeps : (n : ℕ) → ¬ Zeroing n → (reply : Reply) → searchNumber reply ≡ 0 → (m : Memory) →
     let c = refusing Refused m n (record { reply = reply; memory = cleared m }) in
     Keeps m c (searchNumber (c .reply)) × (searchNumber (c .reply) ≡ 0 → c .memory ≡ cleared m)
 searched-keeps zero d reply e m = (accepted-keeps e, λ _. refl)
-searched-keeps (suc n) d reply e m = (record { refused = λ _ _. refl; thirteen = λ q. absurd (d q) }, λ q. absurd (omega (arith, q)))
+searched-keeps (suc n) d reply e m = (record { refused = λ _ _. refl; zeroing = λ q. absurd (d q) }, λ q. absurd (omega (arith, q)))
+
+-- ---- the route
+
+-- 0 for a yes, 1 for a no, and the number of edges
+abbrev pub yesNo : Routed → ℕ
+yesNo (RoutedYes n) = 0
+yesNo RoutedNo = 1
+yesNo (RoutedRefused n) = 2
+
+abbrev edgesIn : Routed → ℕ
+edgesIn (RoutedYes n) = n
+edgesIn RoutedNo = 0
+edgesIn (RoutedRefused n) = 0
+
+lit-leaves : (es : List ℕ) (m : Memory) → LeavesWalk m (record { reply = RoutedYes (length es); memory = lit es m })
+lit-leaves es m = record {
+  no = λ e. absurd (let z : 0 ≡ 1 = ap yesNo e in omega (arith, z));
+  yes = λ n e.
+      let z : length es ≡ n = ap edgesIn e in
+      rw (sym z) (ap (λ (l : List ℕ). record { edges = m .edges; index = m .index; work = zeroed (m .work); output = l ++ drop (length es) (m .output) })
+      (sym (take-append-seam es (drop (length es) (m .output)))));
+}
+
+-- one that lights nothing
+dark-leaves : (m : Memory) {c : Outcome Routed} → 1 ≤ yesNo (c .reply) → (c .reply ≡ RoutedNo → c .memory ≡ cleared m) → LeavesWalk m c
+dark-leaves m h f = record { no = f; yes = λ n e. absurd (let z = ap yesNo e in omega (arith, z)) }
+
+routed-keeps : (n : ℕ) → ¬ Zeroing n → (es : List ℕ) (m : Memory) →
+    let c = refusing RoutedRefused m n (lighting es m) in
+    Keeps m c (routeNumber (c .reply)) × LeavesWalk m c
+unfolding lighting
+routed-keeps (suc n) d es m = (
+  record { refused = λ _ _. refl; zeroing = λ q. absurd (d q) },
+  dark-leaves m (omega arith) (λ e. absurd (let z : 2 ≡ 1 = ap yesNo e in omega (arith, z))),
+)
+routed-keeps zero d [] m = (accepted-keeps refl, dark-leaves m (omega arith) (λ _. refl))
+routed-keeps zero d (x ∷ es) m = both-ways (leb (length (x ∷ es)) (length (m .output)))
+    (λ e. rw e (accepted-keeps refl, lit-leaves (x ∷ es) m))
+    (λ e. rw e (
+      record { refused = λ _ d. absurd (d (inr refl)); zeroing = λ _. refl },
+      dark-leaves m (omega arith) (λ e. absurd (let z : 2 ≡ 1 = ap yesNo e in omega (arith, z))),
+    ))
+
+-- ---- a written card
 
 -- 0 for a length, and the number
 abbrev pub kind : Wrote → ℕ
@@ -124,7 +174,7 @@ abbrev pub numberIn : Wrote → ℕ
 numberIn (Length n) = n
 numberIn (NotWritten n) = n
 
-written-keeps : (n : ℕ) → n ≢ 13 → (card : List ℕ) (m : Memory) →
+written-keeps : (n : ℕ) → ¬ Zeroing n → (card : List ℕ) (m : Memory) →
     let done : Memory = record { edges = m .edges; index = m .index; work = m .work; output = card ++ drop (length card) (m .output) } in
     let c = refusing NotWritten m n (record { reply = Length (length card); memory = done }) in
     Keeps m c (writeNumber (c .reply)) × ((k : ℕ) → c .reply ≡ Length k → drop k (c .memory .output) ≡ drop k (m .output))
@@ -132,10 +182,10 @@ written-keeps zero d card m = (
   accepted-keeps refl,
   λ k e. let z : length card ≡ k = ap numberIn e in rw (sym z) (drop-append-seam card (drop (length card) (m .output))),
 )
-written-keeps (suc n) d card m = (record { refused = λ _ _. refl; thirteen = λ q. absurd (d q) }, λ k e. absurd (let z : 1 ≡ 0 = ap kind e in omega (arith, z)))
+written-keeps (suc n) d card m = (record { refused = λ _ _. refl; zeroing = λ q. absurd (d q) }, λ k e. absurd (let z : 1 ≡ 0 = ap kind e in omega (arith, z)))
 
 pub demand1 : Demand1
-unfolding insertCall insertRefusal removeCall removeRefusal readCall readRefusal searchCall searchRefusal writeCall writeRefusal
+unfolding insertCall insertRefusal removeCall removeRefusal readCall readRefusal searchCall searchRefusal routeCall writeCall writeRefusal
 demand1 =
     record {
       opens = λ h edges index. opens-keeps h _ refl;
@@ -145,5 +195,6 @@ demand1 =
       queries = query-keeps;
       searches = λ h start destination pattern limit m.
           searched-keeps _ (other-number _ tt) _ (told-none (told (graphOf h (standing (m .edges))) pattern start destination limit)) m;
+      routes = λ h start destination pattern m. routed-keeps _ (other-number _ tt) _ m;
       writes = λ h m. written-keeps _ (other-number _ tt) (cardOf h (standing (m .edges))) m;
     }

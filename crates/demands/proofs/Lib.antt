@@ -8,6 +8,7 @@ pub mod CardReader
 pub mod Cards
 pub mod Asking
 pub mod Demand1
+pub mod Routing
 pub mod Reading
 pub mod Right
 pub mod Demand2

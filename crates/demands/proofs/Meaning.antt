@@ -3,14 +3,12 @@ use mathlib.Core.Path.{_≡_, refl, sym, _∙_}
 use mathlib.Core.Logic.{_↔_}
 use mathlib.Core.Bool.{Bool, true}
 use mathlib.Core.List.{List, [], _∷_}
-use Prim.Native.Nat.{ℕ, zero, suc}
+use Prim.Native.Nat.{ℕ}
 use native.Mathlib.Omega.{arith}
-use lib.Dec.{leb}
-use lib.ListN.{length}
-use Rattle.model.specs.Limits.{mostLongest, leastWork}
+use Rattle.model.specs.Limits.{mostLongest}
 use Rattle.model.specs.Edges.{Graph, Bounds, standing}
 use Rattle.model.specs.Patterns.{times, Keyed, MinRepeat}
-use Rattle.model.specs.Computed.Edges.{Small, edgeMemory?}
+use Rattle.model.specs.Computed.Edges.{Small}
 use Rattle.model.specs.Computed.Patterns.{keyed?, minRepeat, timesWritten}
 use Rattle.model.specs.Computed.Order.{counted}
 use Rattle.model.specs.Computed.Entries.{determined}
@@ -24,13 +22,11 @@ use Rattle.model.proofs.Entries.{entries-in, entries-out, entries-rise}
 use Rattle.model.proofs.Query.{test-answers}
 use Rattle.model.proofs.Codes.{test-code}
 use Rattle.model.proofs.Memories.{test-edge-memory, test-index-memory}
-use Rattle.calls.specs.Checks.{vertices?, longest?, ends?, Check}
 use Rattle.calls.specs.Call.{Header, graphOf, Memory}
-use Rattle.calls.specs.Search.{searchRefusal, searchCall}
-use Rattle.calls.proofs.Checks.{bounded, test-ends}
-use Rattle.calls.proofs.Passing.{passing}
+use Rattle.calls.specs.Search.{searchCall}
 use Rattle.demands.specs.Demand1.{searchNumber}
 use Rattle.demands.proofs.Asking.{unrefused, search-right}
+use Rattle.demands.proofs.Routing.{search-allowed, search-number, route-told}
 use Rattle.demands.specs.Meaning.{Replies, GraphMeaning, Meaning}
 
 -- a test is true exactly if its statement holds
@@ -51,40 +47,19 @@ graph-meaning g b =
       codes = λ number below. exactly (test-code (g .longest) number (b .longest-most) below);
     }
 
-accepted-searches : (h : Header) (start destination : ℕ) (pattern : List ℕ) (limit : ℕ) (m : Memory) → searchRefusal h start destination pattern m ≡ 0
-    → Replies (graphOf h (standing (m .edges))) pattern start destination limit (searchCall h start destination pattern limit m .reply)
-unfolding searchCall
-accepted-searches h start destination pattern limit m e =
-    let (v, (k, (_, (_, (ends, (keyed, _)))))) = passing checks tt (unfold searchRefusal in e) in
-    let b : Bounds (h .vertices) (h .longest) = bounded v k in
-    let (hs, ht) = test-yields (test-ends (h .vertices) start destination) ends in
-    let p = test-yields (test-keyed (h .longest) pattern) keyed in
-    let g = graphOf h (standing (m .edges)) in
-    rw e (record {
-      told = told g pattern start destination limit;
-      decides = λ enough. decides g pattern start destination (b .vertices-most) (p .long) hs ht limit enough (omega (arith, p .short, b .longest-most));
-    })
-  where
-    checks : List Check
-    checks =
-        (1, vertices? (h .vertices))
-        ∷ (2, longest? (h .longest))
-        ∷ (3, edgeMemory? (h .vertices) (m .edges))
-        ∷ (4, leb leastWork (length (m .work)))
-        ∷ (10, ends? (h .vertices) start destination)
-        ∷ (11, keyed? (h .longest) pattern)
-        ∷ []
-
 searches : (h : Header) (start destination : ℕ) (pattern : List ℕ) (limit : ℕ) (m : Memory) →
     let r = searchCall h start destination pattern limit m .reply in
     searchNumber r ≡ 0 → Replies (graphOf h (standing (m .edges))) pattern start destination limit r
 unfolding searchCall
-searches h start destination pattern limit m e = go (searchRefusal h start destination pattern m) refl
-  where
-    go : (n : ℕ) → searchRefusal h start destination pattern m ≡ n
-        → Replies (graphOf h (standing (m .edges))) pattern start destination limit (searchCall h start destination pattern limit m .reply)
-    go zero q = accepted-searches h start destination pattern limit m q
-    go (suc n) q = absurd (let z : suc n ≡ 0 = rw q at e in omega (arith, z))
+searches h start destination pattern limit m e =
+    let none = sym (search-number h start destination pattern m limit) ∙ e in
+    let (a, _) = search-allowed h start destination pattern m none in
+    let g = graphOf h (standing (m .edges)) in
+    rw none (record {
+      told = told g pattern start destination limit;
+      decides = λ enough. decides g pattern start destination (a .bounds .vertices-most) (a .keyed .long) (a .start-vertex) (a .destination-vertex) limit enough
+          (omega (arith, a .keyed .short, a .bounds .longest-most));
+    })
 
 written : (l m : List ℕ) (j : ℕ) → Keyed mostLongest l → MinRepeat l m → (times j m ≡ l) ↔ (j ≡ timesWritten l)
 written l m j p r =
@@ -103,5 +78,6 @@ meaning =
       level-zero = λ g l s z. (λ m. level-zero g l s z .0 m ∙ sym (state-zero s), λ e. level-zero g l s z .1 (e ∙ state-zero s));
       level-next = λ g l s i z. level-iff g l s i z;
       searches = searches;
+      routes = λ h s t l limit m. route-told h s t l m limit;
       queries = λ h s t l m more e. search-right h s t l m (unrefused h s t l m e) more;
     }

@@ -1,31 +1,34 @@
 -- Demand 2 (a): questions put with the record and the memory that an accepted change left are answered rightly.
 use mathlib.Core.Path.{_≡_, refl, sym, ap, subst, _∙_}
-use mathlib.Core.Logic.{⊎-elim}
+use mathlib.Core.Logic.{⊎-elim, _↔_}
 use mathlib.Core.Bool.{true, false, _||_}
 use mathlib.Core.List.{List, [], _∷_, _++_, List·Memᴰ·not-nil}
-use Prim.Native.Nat.{ℕ, _≤_, _<_}
+use Prim.Native.Nat.{ℕ, _*_, _≤_, _<_}
 use native.Mathlib.Omega.{arith}
 use lib.Dec.{leb}
 use lib.ListN.{length}
-use Rattle.model.specs.Limits.{mostEdges, leastWork}
+use Rattle.model.specs.Limits.{mostVertices, mostEdges, mostLongest, leastWork}
 use Rattle.model.specs.Lists.{_∈_, Sorted, Rising, filled, zeroed, Bytes}
 use Rattle.model.specs.Edges.{Graph, Bounds, edgeNumber, standing}
 use Rattle.model.specs.Patterns.{Keyed, MinRepeat}
 use Rattle.model.specs.Entries.{Asked}
-use Rattle.model.specs.Query.{Refused}
+use Rattle.model.specs.Routes.{Yes as RoutedYes}
+use Rattle.model.specs.Query.{Yes, Refused}
 use Rattle.model.specs.Computed.Edges.{Small, edge?, edgeMemory?, insertEdge, removeEdge}
 use Rattle.model.specs.Computed.Patterns.{keyed?, once?}
 use Rattle.model.specs.Computed.Order.{counted}
 use Rattle.model.specs.Computed.Entries.{determined}
 use Rattle.model.specs.Computed.Query.{indexMemory?}
-use Rattle.model.proofs.Tests.{Tests, test-true, test-false, test-yields, test-not, test-mem, test-le, test-lt}
+use Rattle.model.proofs.Tests.{Tests, test-true, test-false, test-yields, test-not, test-mem, test-le, test-lt, test-dec}
 use Rattle.model.proofs.Edges.{edge-named}
 use Rattle.model.proofs.Patterns.{test-keyed, test-once}
 use Rattle.model.proofs.Insertion.{length-insert, member-insert, rising-insert, length-remove, rising-remove, member-left}
 use Rattle.model.proofs.Memory.{edge-memory, edge-least, standing-filled, standing-zeroed, filled-memory}
 use Rattle.model.proofs.Zeros.{Ordered, filled-within}
 use Rattle.calls.specs.Checks.{vertices?, longest?, ends?, Check, firstRefusal}
-use Rattle.calls.specs.Call.{Header, graphOf, Memory, lent, Outcome, Returned}
+use Rattle.calls.specs.Call.{Header, graphOf, Memory, lent, lentOut, Outcome, Returned}
+use Rattle.calls.specs.Search.{searchRefusal}
+use Rattle.calls.specs.Route.{routeCall}
 use Rattle.calls.specs.Query.{queryRefusal, queryCall}
 use Rattle.calls.specs.Change.{changeChecks, changeRefusal, openRefusal, openCall, insertRefusal, insertCall, removeRefusal, removeCall}
 use Rattle.calls.specs.Card.{readCall}
@@ -34,8 +37,9 @@ use Rattle.calls.proofs.Change.{ChangeGood, change-good, front-passes}
 use Rattle.calls.proofs.Settling.{settledChange, Result, settled, with-number, accepted-zero}
 use Rattle.calls.proofs.Passing.{passing}
 use Rattle.calls.proofs.Query.{within}
-use Rattle.demands.specs.Demand2.{Judged, Right, RightAfter}
-use Rattle.demands.proofs.Asking.{judged, number-refuses, once-is, search-right}
+use Rattle.demands.specs.Demand2.{Judged, Lit, Right, RightAfter}
+use Rattle.demands.proofs.Asking.{judged, judged-runs, runs-judged, number-refuses, once-is, search-right}
+use Rattle.demands.proofs.Routing.{lit-runs, runs-lit, route-lit}
 use Rattle.demands.proofs.Index.{whole-passes, answer-right}
 use Rattle.demands.proofs.Openings.{no-entries, blank-filled}
 use Rattle.demands.proofs.Reading.{read-said}
@@ -128,6 +132,30 @@ module _ (g : Graph) (bounds : Bounds (g .vertices) (g .longest)) (slots room : 
               = rw (test-false own? more) (test-false (test-le leastWork (length work)) (λ z. omega (arith, z))) in
               number-refuses h s t l m (after-index (pass three (stop four)))
 
+  -- ---- routes
+
+  module _ (s t : ℕ) (l : List ℕ) (hs : s < g .vertices) (ht : t < g .vertices) (k : Keyed (g .longest) l) (walk work : List ℕ) (enough : leastWork ≤ length work) where
+    route-none : searchRefusal h s t l (lentOut edges work walk) ≡ 0
+    unfolding searchRefusal
+    route-none =
+        first-is (bounds-pass bounds (pass (memory-passes can) (pass (test-true (test-le leastWork (length work)) enough)
+        (pass (test-true (test-ends (g .vertices) s t) (hs, ht)) (pass (test-true (test-keyed (g .longest) l) k) none)))))
+
+    shown : let c = routeCall h s t l (lentOut edges work walk) in Lit g l s t walk (c .reply) (c .memory .output)
+    shown =
+        let c = routeCall h s t l (lentOut edges work walk) in
+        subst (λ (x : List ℕ). Lit (graphOf h x) l s t walk (c .reply) (c .memory .output)) (stands can) (route-lit h s t l (lentOut edges work walk) route-none)
+
+    asked : Judged g l s t (queryCall h s t l (lent edges index work) .reply)
+    asked = elim (test-dec (own? edges work s t l hs ht k)) [
+      | yes own ↦ once-judged edges work s t l hs ht k own
+      | no more ↦ searched-judged edges work s t l hs ht k more refl enough
+    ]
+
+    shown-if : mostLongest * mostVertices ≤ length walk
+        → (queryCall h s t l (lent edges index work) .reply ≡ Yes) ↔ ((n : ℕ) × (routeCall h s t l (lentOut edges work walk) .reply ≡ RoutedYes n))
+    shown-if long = (λ e. runs-lit bounds k hs ht long shown (judged-runs asked e), λ (n, e). runs-judged asked (lit-runs bounds k hs ht shown e))
+
   pub right : Right h edges index g
   right =
       record {
@@ -136,6 +164,8 @@ module _ (g : Graph) (bounds : Bounds (g .vertices) (g .longest)) (slots room : 
         less = λ s t l hs ht k more work. work-refused edges work s t l hs ht k more refl;
         ends = λ s t l d other work. ends-refused other work s t l d;
         patterns = λ s t l hs ht d other work. pattern-refused other work s t l hs ht d;
+        routes = shown;
+        given = shown-if;
       }
 
 -- ---- after an accepted change

@@ -1,25 +1,31 @@
--- Demand 1: a refused call leaves everything lent as it was, except that 13 leaves work memory zero; an accepted call leaves the work memory
+-- Demand 1: a refused call leaves everything lent as it was, except that 13 and 18 leave work memory zero; an accepted call leaves the work memory
 -- that it uses zero. (That calls touch memory only between its ends, and always finish, is the check's own.)
 use mathlib.Core.Path.{_≡_}
-use mathlib.Core.Logic.{_≢_}
-use mathlib.Core.List.{List, []}
+use mathlib.Core.Logic.{_⊎_}
+use mathlib.Core.List.{List, [], _++_}
 use Prim.Native.Nat.{ℕ, _≤_}
-use lib.ListN.{drop}
+use lib.ListN.{take, drop}
 use Rattle.model.specs.Lists.{zeroed}
 use Rattle.model.specs.Patterns.{MinRepeat}
 use Rattle.model.specs.Query.{Answered, Yes as AnsweredYes, No as AnsweredNo, Refused as AnsweredRefused}
+use Rattle.model.specs.Routes.{Routed, Yes as RoutedYes, No as RoutedNo, Refused as RoutedRefused}
 use Rattle.model.specs.States.{Reply, Yes, No, Spent, Refused}
 use Rattle.calls.specs.Call.{Header, Memory, lent, cleared, Outcome, Returned, Wrote, Length, Refused as NotWritten, noRecord}
 use Rattle.calls.specs.Search.{searchCall}
+use Rattle.calls.specs.Route.{routeCall}
 use Rattle.calls.specs.Query.{queryCall}
 use Rattle.calls.specs.Change.{openCall, insertCall, removeCall}
 use Rattle.calls.specs.Card.{readCall, writeCall}
 
+-- the refusals that leave work memory zero: document 01's 13, and 18, "as 13 does" (document 02, Three)
+abbrev pub Zeroing : ℕ → Type 0
+Zeroing number = (number ≡ 13) ⊎ (number ≡ 18)
+
 -- a call that was lent that memory, and told that number: 0 if it was accepted
 pub record Keeps {R : Type 0} (m : Memory) (c : Outcome R) (number : ℕ) : Type 0 where
   -- "All lent memory is unchanged, except that 13 leaves work memory zero."
-  pub refused : 1 ≤ number → number ≢ 13 → c .memory ≡ m
-  pub thirteen : number ≡ 13 → c .memory ≡ cleared m
+  pub refused : 1 ≤ number → ¬ Zeroing number → c .memory ≡ m
+  pub zeroing : Zeroing number → c .memory ≡ cleared m
 
 -- a changing call that was given that record
 pub record ChangeKeeps (given : Header) (m : Memory) (c : Outcome Returned) : Type 0 where
@@ -41,6 +47,11 @@ queryNumber AnsweredYes = 0
 queryNumber AnsweredNo = 0
 queryNumber (AnsweredRefused n) = n
 
+abbrev pub routeNumber : Routed → ℕ
+routeNumber (RoutedYes n) = 0
+routeNumber RoutedNo = 0
+routeNumber (RoutedRefused n) = n
+
 abbrev pub writeNumber : Wrote → ℕ
 writeNumber (Length n) = 0
 writeNumber (NotWritten n) = n
@@ -49,6 +60,12 @@ writeNumber (NotWritten n) = n
 pub record Leaves (pattern : List ℕ) (m m′ : Memory) : Type 0 where
   pub once : MinRepeat pattern pattern → m′ ≡ m
   pub repeating : ¬ MinRepeat pattern pattern → m′ ≡ cleared m
+
+-- what an accepted route leaves: work memory zero, and walk memory as it was, but for the slots of its edges
+pub record LeavesWalk (m : Memory) (c : Outcome Routed) : Type 0 where
+  pub no : c .reply ≡ RoutedNo → c .memory ≡ cleared m
+  pub yes : (n : ℕ) → c .reply ≡ RoutedYes n
+      → c .memory ≡ record { edges = m .edges; index = m .index; work = zeroed (m .work); output = take n (c .memory .output) ++ drop n (m .output) }
 
 pub record Demand1 : Type 0 where
   pub opens : (h : Header) (edges index : List ℕ) → let m = lent edges index [] in ChangeKeeps h m (openCall h m)
@@ -65,6 +82,10 @@ pub record Demand1 : Type 0 where
   pub searches : (h : Header) (start destination : ℕ) (pattern : List ℕ) (limit : ℕ) (m : Memory) →
       let c = searchCall h start destination pattern limit m in
       Keeps m c (searchNumber (c .reply)) × (searchNumber (c .reply) ≡ 0 → c .memory ≡ cleared m)
+  -- document 02, Three: "the slots behind it are untouched. A no writes nothing"; 18 "leaves work memory zero, as 13 does"
+  pub routes : (h : Header) (start destination : ℕ) (pattern : List ℕ) (m : Memory) →
+      let c = routeCall h start destination pattern m in
+      Keeps m c (routeNumber (c .reply)) × LeavesWalk m c
   -- "A written card touches only its own length of the output, and its length is returned."
   pub writes : (h : Header) (m : Memory) →
       let c = writeCall h m in

@@ -1,17 +1,20 @@
--- Demand 2: replies are right on the record and index that the last accepted change left, for a pattern that repeats itself on its edges too, and
--- cards restore what they were written from.
+-- Demand 2: replies are right on the record and index that the last accepted change left, for a pattern that repeats itself and for routes on its
+-- edges too, and cards restore what they were written from.
 use mathlib.Core.Path.{_≡_}
+use mathlib.Core.Logic.{_↔_}
 use mathlib.Core.List.{List, [], _++_}
-use Prim.Native.Nat.{ℕ, _+_, _≤_, _<_}
+use Prim.Native.Nat.{ℕ, _+_, _*_, _≤_, _<_}
 use lib.ListN.{length, take, drop}
-use Rattle.model.specs.Limits.{mostEdges, leastWork}
+use Rattle.model.specs.Limits.{mostVertices, mostEdges, mostLongest, leastWork}
 use Rattle.model.specs.Lists.{filled, Bytes}
 use Rattle.model.specs.Edges.{Graph, standing}
 use Rattle.model.specs.Patterns.{Keyed, MinRepeat, Pattern}
 use Rattle.model.specs.Walks.{Runs}
+use Rattle.model.specs.Routes.{Route, Routed, Yes as RoutedYes, No as RoutedNo, Refused as RoutedRefused}
 use Rattle.model.specs.Query.{Answered, Yes, No, Refused}
 use Rattle.model.specs.Computed.Entries.{determined}
-use Rattle.calls.specs.Call.{Header, graphOf, Memory, lent, Outcome, Returned, Length}
+use Rattle.calls.specs.Call.{Header, graphOf, Memory, lent, lentOut, Outcome, Returned, Length}
+use Rattle.calls.specs.Route.{routeCall}
 use Rattle.calls.specs.Query.{queryCall}
 use Rattle.calls.specs.Change.{openCall, insertCall, removeCall}
 use Rattle.calls.specs.Card.{readCall, writeCall}
@@ -20,6 +23,13 @@ use Rattle.calls.specs.Card.{readCall, writeCall}
 pub data Judged (g : Graph) (l : List ℕ) (s t : ℕ) : Answered → Type 0 where
   runs : Runs g l s t → Judged g l s t Yes
   runs-not : ¬ Runs g l s t → Judged g l s t No
+
+-- what the route's call replies and leaves in walk memory (document 02, Three): yes with the route's edges, or 18 where they do not fit, or no, and
+-- no walk runs the pattern
+pub data Lit (g : Graph) (l : List ℕ) (s t : ℕ) (walk : List ℕ) : Routed → List ℕ → Type 0 where
+  lit : (es : List ℕ) → Route g l s t es → length es ≤ length walk → Lit g l s t walk (RoutedYes (length es)) (es ++ drop (length es) walk)
+  short : (es : List ℕ) → Route g l s t es → length walk < length es → Lit g l s t walk (RoutedRefused 18) walk
+  none : ¬ Runs g l s t → Lit g l s t walk RoutedNo walk
 
 -- (a) queries (questions) put with the record, edge memory and index memory that a change left; the edges that then stand are those of the graph
 pub record Right (h : Header) (edges index : List ℕ) (g : Graph) : Type 0 where
@@ -39,6 +49,16 @@ pub record Right (h : Header) (edges index : List ℕ) (g : Graph) : Type 0 wher
       → (other work : List ℕ) → queryCall h start destination pattern (lent other index work) .reply ≡ Refused 10
   pub patterns : (start destination : ℕ) (pattern : List ℕ) → start < g .vertices → destination < g .vertices → ¬ Keyed (g .longest) pattern
       → (other work : List ℕ) → queryCall h start destination pattern (lent other index work) .reply ≡ Refused 11
+  -- routes on that record and edge memory, with work memory of 4,096 numbers: the route's edges are given, and, where walk memory has 1,024 slots,
+  -- exactly if the question is a yes
+  pub routes : (start destination : ℕ) (pattern : List ℕ) → start < g .vertices → destination < g .vertices → Keyed (g .longest) pattern
+      → (walk work : List ℕ) → leastWork ≤ length work →
+      let c = routeCall h start destination pattern (lentOut edges work walk) in
+      Lit g pattern start destination walk (c .reply) (c .memory .output)
+  pub given : (start destination : ℕ) (pattern : List ℕ) → start < g .vertices → destination < g .vertices → Keyed (g .longest) pattern
+      → (walk work : List ℕ) → leastWork ≤ length work → mostLongest * mostVertices ≤ length walk
+      → (queryCall h start destination pattern (lent edges index work) .reply ≡ Yes)
+      ↔ ((n : ℕ) × (routeCall h start destination pattern (lentOut edges work walk) .reply ≡ RoutedYes n))
 
 -- put with the record that a change handed back and the memory that it left, to the edges that stand in the edge memory that it left
 abbrev pub RightAfter : Outcome Returned → Type 0
@@ -71,5 +91,5 @@ pub record Demand2 : Type 0 where
   -- (c) a card that was read, written again: its length, its bytes, and the rest of the output untouched
   pub writing : (bytes output : List ℕ) (m : Memory) → Bytes bytes → readCall bytes m .reply .answer ≡ 0 → length bytes ≤ length output →
       let c = readCall bytes m in
-      let w = writeCall (c .reply .header) (record { edges = c .memory .edges; index = []; work = []; output = output }) in
+      let w = writeCall (c .reply .header) (lentOut (c .memory .edges) [] output) in
       (w .reply ≡ Length (length bytes)) × (w .memory .output ≡ bytes ++ drop (length bytes) output)

@@ -14,6 +14,7 @@ use Rattle.model.specs.Walks.{Spells, Runs}
 use Rattle.model.specs.Order.{weight, Before, Names}
 use Rattle.model.specs.Entries.{IsEntry}
 use Rattle.model.specs.Query.{Coded, OfEntry, Answers}
+use Rattle.model.specs.Routes.{Refused}
 use Rattle.model.specs.States.{state, Reply}
 use Rattle.model.specs.Computed.Edges.{edgeMemory?}
 use Rattle.model.specs.Computed.Patterns.{keyed?, minRepeat, timesWritten}
@@ -24,9 +25,10 @@ use Rattle.model.specs.Computed.Query.{code?, indexMemory?, answers?}
 use Rattle.model.specs.Levels.{Reached, Told, Decides}
 use Rattle.calls.specs.Call.{Header, graphOf, Memory}
 use Rattle.calls.specs.Search.{searchCall}
+use Rattle.calls.specs.Route.{routeCall}
 use Rattle.calls.specs.Query.{queryCall}
 use Rattle.demands.specs.Demand1.{searchNumber, queryNumber}
-use Rattle.demands.specs.Demand2.{Judged}
+use Rattle.demands.specs.Demand2.{Judged, Lit}
 
 -- what an accepted plain check (level search) replies
 pub record Replies (g : Graph) (l : List ℕ) (s t limit : ℕ) (r : Reply) : Type 0 where
@@ -75,3 +77,9 @@ pub record Meaning : Type 0 where
   pub queries : (h : Header) (start destination : ℕ) (pattern : List ℕ) (m : Memory) → ¬ MinRepeat pattern pattern →
       let r = queryCall h start destination pattern m .reply in
       queryNumber r ≡ 0 → Judged (graphOf h (standing (m .edges))) pattern start destination r
+  -- document 02, Three: "The checks are the plain check's", and past them the route is given, on whatever record and memory
+  pub routes : (h : Header) (start destination : ℕ) (pattern : List ℕ) (limit : ℕ) (m : Memory) →
+      let n = searchNumber (searchCall h start destination pattern limit m .reply) in
+      let c = routeCall h start destination pattern m in
+      (1 ≤ n → c .reply ≡ Refused n)
+      × (n ≡ 0 → Lit (graphOf h (standing (m .edges))) pattern start destination (m .output) (c .reply) (c .memory .output))

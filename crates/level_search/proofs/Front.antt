@@ -28,3 +28,8 @@ module _ (w front : List ℕ) (long : leastWork ≤ length w) (cleared : front �
   pub front-same : (after : List ℕ) → length after ≡ length (take leastWork (front ++ drop leastWork w))
       → length (after ++ drop leastWork (front ++ drop leastWork w)) ≡ length w
   front-same after e = length-front (front ++ drop leastWork w) after leastWork e ∙ zeros-long w leastWork long cleared
+
+  -- and taken again
+  pub front-again : (after : List ℕ) → length after ≡ length (take leastWork (front ++ drop leastWork w))
+      → take leastWork (after ++ drop leastWork (front ++ drop leastWork w)) ≡ after
+  front-again after e = take-at after (drop leastWork (front ++ drop leastWork w)) leastWork (e ∙ front-length)

@@ -188,7 +188,7 @@ pub fn is_run(
 }
 
 // The checks 1 2 3 4 10 11, in that order.
-fn check(
+pub fn check(
     vertices: u32,
     longest: u32,
     start: u32,

@@ -24,3 +24,8 @@ pub mod Checked
 pub mod IndexMemory
 pub mod Codes
 pub mod Memories
+pub mod Before
+pub mod Trails
+pub mod Queue
+pub mod Routes
+pub mod RouteSearch

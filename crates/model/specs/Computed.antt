@@ -5,5 +5,6 @@ pub mod Patterns
 pub mod Table
 pub mod Order
 pub mod Levels
+pub mod Routes
 pub mod Entries
 pub mod Query

@@ -3,6 +3,7 @@ pub mod Lists
 pub mod Edges
 pub mod Patterns
 pub mod Walks
+pub mod Routes
 pub mod Order
 pub mod Entries
 pub mod Query
@@ -10,4 +11,5 @@ pub mod States
 pub mod Replies
 pub mod Computed
 pub mod Levels
+pub mod Queue
 pub mod Build

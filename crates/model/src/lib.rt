@@ -48,7 +48,7 @@ pub const TABLE_LONGEST: usize = 4;
 
 pub const TABLE_SIZE: usize = 4680;
 
-// Why a call is turned down: a case for each number of document 01's table (specs/Replies.antt has the numbers).
+// Why a call is turned down: a case for each number of document 01's table, and of document 02 (specs/Replies.antt has the numbers).
 pub enum Refusal {
     // the record
     Vertices,
@@ -73,6 +73,8 @@ pub enum Refusal {
     CardVersion,
     CardEdges,
     CardOutput,
+    // a route
+    WalkMemory,
 }
 
 // What a check, or a call that changes the layout, answers.
@@ -92,6 +94,13 @@ pub enum SearchReply {
 // What a query replies.
 pub enum QueryReply {
     Yes,
+    No,
+    Refused(Refusal),
+}
+
+// What the route's call replies: yes with the number of edges, no, or refused.
+pub enum RouteReply {
+    Yes(u32),
     No,
     Refused(Refusal),
 }

@@ -7,6 +7,7 @@ use lib.Dec.{eqb}
 use lib.ListN.{length, getD}
 use Rattle.model.specs.Query.{Answered, Yes as AnsweredYes, No as AnsweredNo, Refused as AnsweredRefused}
 use Rattle.model.specs.States.{Reply, Yes, No, Spent, Refused}
+use Rattle.model.specs.Routes.{Routed, Yes as RoutedYes, No as RoutedNo, Refused as RoutedRefused}
 use Rattle.model.specs.Replies.{answerOf}
 use Rattle.calls.specs.Call.{Header, Memory, Outcome, Meets, Returned, Wrote, Length, Refused as NotWritten}
 use Rattle.store.specs.declared.Changed.{Changed}
@@ -47,7 +48,7 @@ answeredInC AnsweredYes = 100
 answeredInC AnsweredNo = 0
 answeredInC (AnsweredRefused n) = n
 
--- what stands above the levels in a reply
+-- what stands above the levels, or the edges of a route, in a reply
 abbrev pub replyUnit : ℕ
 replyUnit = 2 ^ 32
 
@@ -57,6 +58,12 @@ repliedInC (Yes c) = 100 * replyUnit + c
 repliedInC (No c) = c
 repliedInC (Spent c) = 101 * replyUnit + c
 repliedInC (Refused n) = n * replyUnit
+
+-- "reply × 2^32 + number of edges: 100 with the walk's edges, 0 no, else the number with 0"
+abbrev pub routedInC : Routed → ℕ
+routedInC (RoutedYes n) = 100 * replyUnit + n
+routedInC RoutedNo = 0
+routedInC (RoutedRefused n) = n * replyUnit
 
 -- "number × 2^32 refused; the length accepted"
 abbrev pub wroteInC : Wrote → ℕ

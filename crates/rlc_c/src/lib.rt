@@ -2,6 +2,7 @@
 // number. A record of another length gives 255, and nothing is touched.
 use model::Answer;
 use model::QueryReply;
+use model::RouteReply;
 use model::SearchReply;
 use store::Changed;
 use store::Header;
@@ -11,12 +12,13 @@ ghost use Prim.Native.Nat.{_*_};
 ghost use mathlib.Core.List.{[]};
 ghost use lib.ListN.{length, getD};
 ghost use Rattle.model.specs.Computed.Patterns.{foldedLength, timesWritten, Folds};
-ghost use Rattle.calls.specs.Call.{lent, Meets};
+ghost use Rattle.calls.specs.Call.{lent, lentOut, Meets};
 ghost use Rattle.calls.specs.Search.{searchCall};
+ghost use Rattle.calls.specs.Route.{routeCall};
 ghost use Rattle.calls.specs.Query.{queryCall};
 ghost use Rattle.calls.specs.Change.{openCall, insertCall, removeCall};
 ghost use Rattle.calls.specs.Card.{readCall, writeCall};
-ghost use Rattle.rlc_c.specs.Interface.{headerIn, otherRecord, replyUnit, inC, HandsBack, ChangesInC, answeredInC, repliedInC, wroteInC};
+ghost use Rattle.rlc_c.specs.Interface.{headerIn, otherRecord, replyUnit, inC, HandsBack, ChangesInC, answeredInC, repliedInC, routedInC, wroteInC};
 
 const OTHER_RECORD: u32 = 255;
 
@@ -24,7 +26,7 @@ const YES: u32 = 100;
 
 const SPENT: u32 = 101;
 
-// A reply stands above 32 bits for the levels.
+// A reply stands above 32 bits for the levels, or the edges of a route.
 const UNIT: u64 = 1 << 32;
 
 // The record that two words hold.
@@ -222,14 +224,44 @@ pub extern "C" fn rlc_search(
     }
 }
 
+// The route.
+#[no_mangle]
+pub extern "C" fn rlc_route(
+    words: &[u32],
+    start: u32,
+    destination: u32,
+    pattern: &[u8],
+    edges: &[u32],
+    walk: &mut [u32],
+    work: &mut [u64],
+) -> u64
+    ensures { λ r. ⌜
+        Meets (inC (now (words .entry)) routedInC (otherRecord * replyUnit) (lentOut (now (edges .entry)) (now (work .entry)) (now (walk .entry)))
+        (routeCall (headerIn (now (words .entry))) start destination (now (pattern .entry))
+        (lentOut (now (edges .entry)) (now (work .entry)) (now (walk .entry)))))
+        r (lentOut (now (edges .entry)) (now (work .exit)) (now (walk .exit)))
+        ⌝ }
+{
+    if words.len() != 2 {
+        return OTHER_RECORD as u64 * UNIT;
+    }
+    let header = header_in(words);
+    let reply = store::route(header, start, destination, pattern, edges, walk, work);
+    match reply {
+        RouteReply::Yes(count) => YES as u64 * UNIT + count as u64,
+        RouteReply::No => 0,
+        RouteReply::Refused(refusal) => store::refusal_number(refusal) as u64 * UNIT,
+    }
+}
+
 // Card writing.
 #[no_mangle]
 pub extern "C" fn rlc_write_card(words: &[u32], edges: &[u32], output: &mut [u8]) -> u64
     ensures { λ r. ⌜
         Meets (inC (now (words .entry)) wroteInC (otherRecord * replyUnit)
-        (record { edges = now (edges .entry); index = []; work = []; output = now (output .entry) })
-        (writeCall (headerIn (now (words .entry))) (record { edges = now (edges .entry); index = []; work = []; output = now (output .entry) })))
-        r (record { edges = now (edges .entry); index = []; work = []; output = now (output .exit) })
+        (lentOut (now (edges .entry)) [] (now (output .entry)))
+        (writeCall (headerIn (now (words .entry))) (lentOut (now (edges .entry)) [] (now (output .entry)))))
+        r (lentOut (now (edges .entry)) [] (now (output .exit)))
         ⌝ }
 {
     if words.len() != 2 {

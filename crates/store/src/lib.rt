@@ -5,15 +5,17 @@ use model::Answer;
 use model::HEAD_BYTES;
 use model::QueryReply;
 use model::Refusal;
+use model::RouteReply;
 use model::SearchReply;
 use model::TRIPLE_BYTES;
 use patterns::Folded;
 ghost use mathlib.Core.Path.{_≡_};
 ghost use mathlib.Core.List.{[]};
-ghost use Rattle.model.specs.Replies.{answeredOf, numberOf, replyOf};
+ghost use Rattle.model.specs.Replies.{answeredOf, numberOf, replyOf, routedOf};
 ghost use Rattle.model.specs.Computed.Patterns.{Folds};
-ghost use Rattle.calls.specs.Call.{lent, Meets};
+ghost use Rattle.calls.specs.Call.{lent, lentOut, Meets};
 ghost use Rattle.calls.specs.Search.{searchCall};
+ghost use Rattle.calls.specs.Route.{routeCall};
 ghost use Rattle.calls.specs.Query.{queryCall};
 ghost use Rattle.calls.specs.Change.{openCall, insertCall, removeCall};
 ghost use Rattle.calls.specs.Card.{readCall, writeCall};
@@ -138,8 +140,8 @@ pub fn read_card(card: &[u8], edges: &mut [u32], index: &mut [u64], work: &mut [
 // Writes the layout card to the front of the output, and returns its length.
 pub fn write_card(header: Header, edges: &[u32], output: &mut [u8]) -> Written
     ensures { λ r. ⌜
-        Meets (writeCall (numbers header) (record { edges = now (edges .entry); index = []; work = []; output = now (output .entry) }))
-        (wroteOf r) (record { edges = now (edges .entry); index = []; work = []; output = now (output .exit) })
+        Meets (writeCall (numbers header) (lentOut (now (edges .entry)) [] (now (output .entry))))
+        (wroteOf r) (lentOut (now (edges .entry)) [] (now (output .exit)))
         ⌝ }
 {
     let vertices = header.vertices;
@@ -209,6 +211,34 @@ pub fn level_search(
     )
 }
 
+// The route (document 02, Three): its edges go to the front of walk memory.
+pub fn route(
+    header: Header,
+    start: u32,
+    destination: u32,
+    pattern: &[u8],
+    edges: &[u32],
+    walk: &mut [u32],
+    work: &mut [u64],
+) -> RouteReply
+    ensures { λ r. ⌜
+        Meets (routeCall (numbers header) start destination (now (pattern .entry))
+        (lentOut (now (edges .entry)) (now (work .entry)) (now (walk .entry))))
+        (routedOf r) (lentOut (now (edges .entry)) (now (work .exit)) (now (walk .exit)))
+        ⌝ }
+{
+    route::route(
+        header.vertices,
+        header.longest,
+        start,
+        destination,
+        pattern,
+        edges,
+        walk,
+        work,
+    )
+}
+
 // The length of a pattern's minimum repeat, which is the pattern's first labels, looked up in the table (document 02, One), and how many times it
 // was written (Two).
 pub fn minimum_repeat(pattern: &[u8]) -> Folded
@@ -224,7 +254,7 @@ pub fn minimum_repeat_computed(pattern: &[u8]) -> Folded
     patterns::minimum_repeat(pattern)
 }
 
-// Document 01's number of a refusal.
+// The documents' number of a refusal.
 pub fn refusal_number(refusal: Refusal) -> u32
     ensures { λ r. ⌜ r ≡ numberOf refusal ⌝ }
 {
@@ -246,5 +276,6 @@ pub fn refusal_number(refusal: Refusal) -> u32
         Refusal::CardVersion => 15,
         Refusal::CardEdges => 16,
         Refusal::CardOutput => 17,
+        Refusal::WalkMemory => 18,
     }
 }

@@ -10,18 +10,20 @@ use Rattle.model.specs.Computed.Edges.{edge?, zeros?, risingEdges?, edgeMemory?
 use Rattle.model.specs.Computed.Patterns.{keyed?, repeatFrom, minRepeat, timesWritten, once?, own?, words, keyedPatterns, patterns}
 use Rattle.model.specs.Computed.Order.{insertByWeight, byWeight, counted}
 use Rattle.model.specs.Computed.Levels.{states, leads?, led?, grow, stage, replyFrom, levelReply, runs?}
+use Rattle.model.specs.Computed.Routes.{follows?, visit, visitAll, search, pick, routeOf}
 use Rattle.model.specs.Computed.Entries.{stop?, allStops, earliest?, out?, in?, ofHub, ofOwner, ofSide, entries, determined}
 use Rattle.model.specs.Computed.Query.{digits, code?, entry?, risingEntries?, indexMemory?, answers?}
 use Rattle.model.proofs.Tests.{test-all, test-T}
 use Rattle.calls.specs.Checks.{firstRefusal}
 use Rattle.calls.specs.Search.{searchRefusal, searchCall}
+use Rattle.calls.specs.Route.{lighting, routeCall}
 use Rattle.calls.specs.Query.{queryRefusal, queryCall}
 use Rattle.calls.specs.Change.{settle, removeRefusal, removeCall}
 use Rattle.calls.specs.Card.{edgesOf, risingTriples?, cardEdges?, readRefusal, readCall}
-use Rattle.worked_examples.specs.Trials.{Case, A, oneLeg, twoLegs, loopTwo, figure2, tableII, slotsA, loop, B, removedB, cardA, trials, holds?, buildLent, leaves?, sameReply?, sameAnswer?, entriesOf}
+use Rattle.worked_examples.specs.Trials.{Case, A, oneLeg, twoLegs, loopTwo, twoWays, figure2, tableII, slotsA, loop, B, removedB, cardA, trials, holds?, buildLent, leaves?, sameReply?, sameRouted?, lights?, sameAnswer?, entriesOf}
 
 all-hold : T (all? holds? trials)
-unfolding A oneLeg twoLegs loopTwo figure2 tableII slotsA loop B removedB cardA trials holds? buildLent leaves? sameReply? sameAnswer? entriesOf any? all? keep from spread edge? zeros? risingEdges? edgeMemory? standing removeEdge times keyed? repeatFrom minRepeat timesWritten once? own? codeFrom words keyedPatterns patterns weight insertByWeight byWeight counted rank states leads? led? grow stage replyFrom levelReply runs? stop? allStops earliest? out? in? ofHub ofOwner ofSide entries determined digits code? entry? risingEntries? indexMemory? answers? firstRefusal searchRefusal searchCall queryRefusal queryCall settle removeRefusal removeCall edgesOf risingTriples? cardEdges? readRefusal readCall
+unfolding A oneLeg twoLegs loopTwo twoWays figure2 tableII slotsA loop B removedB cardA trials holds? buildLent leaves? sameReply? sameRouted? lights? sameAnswer? entriesOf any? all? keep from spread edge? zeros? risingEdges? edgeMemory? standing removeEdge times keyed? repeatFrom minRepeat timesWritten once? own? codeFrom words keyedPatterns patterns weight insertByWeight byWeight counted rank states leads? led? grow stage replyFrom levelReply runs? follows? visit visitAll search pick routeOf stop? allStops earliest? out? in? ofHub ofOwner ofSide entries determined digits code? entry? risingEntries? indexMemory? answers? firstRefusal searchRefusal searchCall lighting routeCall queryRefusal queryCall settle removeRefusal removeCall edgesOf risingTriples? cardEdges? readRefusal readCall
 all-hold = tt
 
 pub each-holds : (c : Case) → List·Memᴰ c trials → T (holds? c)

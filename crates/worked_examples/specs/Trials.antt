@@ -1,5 +1,5 @@
--- The starred trial runs of document 01, layout A's slots, and what document 02 says of patterns keyed twice, as one table of cases, put to the
--- calls' definitions.
+-- The starred trial runs of document 01, layout A's slots, and what document 02 says of patterns keyed twice and of routes, as one table of cases,
+-- put to the calls' definitions.
 use mathlib.Core.Bool.{Bool, true, false, not, _&&_}
 use mathlib.Core.List.{List, [], _∷_}
 use Prim.Native.Nat.{ℕ, _+_}
@@ -8,13 +8,15 @@ use lib.ListN.{length, replicate}
 use Rattle.model.specs.Limits.{leastWork, enoughLevels}
 use Rattle.model.specs.Edges.{edgeNumber, standing}
 use Rattle.model.specs.Query.{Answered, Yes as AnsweredYes, No as AnsweredNo, Refused as AnsweredRefused}
+use Rattle.model.specs.Routes.{Routed, Yes as RoutedYes, No as RoutedNo, Refused as RoutedRefused}
 use Rattle.model.specs.States.{Reply, Yes, No, Spent, Refused}
 use Rattle.model.specs.Computed.Lists.{same?}
 use Rattle.model.specs.Computed.Edges.{removeEdge}
 use Rattle.model.specs.Computed.Patterns.{minRepeat, timesWritten}
 use Rattle.model.specs.Computed.Entries.{determined}
-use Rattle.calls.specs.Call.{Header, Memory, lent, Outcome, Returned}
+use Rattle.calls.specs.Call.{Header, Memory, lent, lentOut, Outcome, Returned}
 use Rattle.calls.specs.Search.{searchCall}
+use Rattle.calls.specs.Route.{routeCall}
 use Rattle.calls.specs.Query.{queryCall}
 use Rattle.calls.specs.Change.{removeCall}
 use Rattle.calls.specs.Card.{readCall}
@@ -59,6 +61,10 @@ twoLegs = record { vertices = 3; longest = 2; edges = 257 ∷ 4354 ∷ [] }
 unfoldable pub loopTwo : TrialLayout
 loopTwo = record { vertices = 1; longest = 2; edges = 256 ∷ [] }
 
+-- two ways of two legs from 0 to 3, over 1 and over 2: 0-1-1, 0-1-2, 1-1-3, 2-1-3
+unfoldable pub twoWays : TrialLayout
+twoWays = record { vertices = 4; longest = 1; edges = 257 ∷ 258 ∷ 4355 ∷ 8451 ∷ [] }
+
 -- Fig. 2 of paper 004, vertex v + 1 there being v here: edges 0-1-1, 0-2-2, 1-1-4, 1-2-4, 2-1-1, 2-1-5, 2-2-0, 2-2-3, 3-1-0, 3-3-5, 4-1-0
 unfoldable pub figure2 : TrialLayout
 figure2 = record { vertices = 6; longest = 2; edges = 257 ∷ 514 ∷ 4356 ∷ 4612 ∷ 8449 ∷ 8453 ∷ 8704 ∷ 8707 ∷ 12544 ∷ 13061 ∷ 16640 ∷ [] }
@@ -84,6 +90,8 @@ pub data Case : Type 0 where
   searches : (y : TrialLayout) (start destination : ℕ) (pattern : List ℕ) (limit : ℕ) (expected : Reply) → Case
   -- a question on a layout with its edge memory and an index memory, from start to destination by a pattern, and whether it is yes
   queries : (y : TrialLayout) (index : List ℕ) (start destination : ℕ) (pattern : List ℕ) (expected : Bool) → Case
+  -- a route on a layout, from start to destination by a pattern, with walk memory of that content; its reply, and what walk memory holds then
+  routes : (y : TrialLayout) (start destination : ℕ) (pattern walk : List ℕ) (expected : Routed) (after : List ℕ) → Case
   -- a layout, and the entries that its edges determine
   indexed : (y : TrialLayout) (expected : List ℕ) → Case
   -- a layout, and how many entries it needs
@@ -127,6 +135,13 @@ trials =
     ∷ searches twoLegs 0 2 (1 ∷ 1 ∷ []) enoughLevels (Yes 2)
     ∷ searches twoLegs 0 1 (1 ∷ 1 ∷ []) enoughLevels (No 3)
     ∷ searches loopTwo 0 0 (1 ∷ 1 ∷ []) enoughLevels (Yes 2)
+    ∷ routes A 0 0 (1 ∷ 2 ∷ []) (7 ∷ 7 ∷ 7 ∷ []) (RoutedYes 2) (257 ∷ 4608 ∷ 7 ∷ [])
+    ∷ routes A 0 2 (1 ∷ []) (7 ∷ 7 ∷ []) (RoutedYes 2) (257 ∷ 4354 ∷ [])
+    ∷ routes A 2 0 (1 ∷ []) (7 ∷ 7 ∷ []) RoutedNo (7 ∷ 7 ∷ [])
+    ∷ routes A 0 0 (1 ∷ 2 ∷ []) (7 ∷ []) (RoutedRefused 18) (7 ∷ [])
+    ∷ routes twoWays 0 3 (1 ∷ []) (7 ∷ 7 ∷ []) (RoutedYes 2) (257 ∷ 4355 ∷ [])
+    ∷ routes oneLeg 0 1 (1 ∷ 1 ∷ []) (7 ∷ 7 ∷ []) RoutedNo (7 ∷ 7 ∷ [])
+    ∷ routes loopTwo 0 0 (1 ∷ 1 ∷ []) (7 ∷ 7 ∷ []) (RoutedYes 2) (256 ∷ 256 ∷ [])
     ∷ []
 
 -- the two replies are the same
@@ -148,6 +163,17 @@ sameReply? (Refused a) (No b) = false
 sameReply? (Refused a) (Spent b) = false
 sameReply? (Refused a) (Refused b) = eqb a b
 
+unfoldable pub sameRouted? : Routed → Routed → Bool
+sameRouted? (RoutedYes a) (RoutedYes b) = eqb a b
+sameRouted? (RoutedYes a) RoutedNo = false
+sameRouted? (RoutedYes a) (RoutedRefused b) = false
+sameRouted? RoutedNo (RoutedYes b) = false
+sameRouted? RoutedNo RoutedNo = true
+sameRouted? RoutedNo (RoutedRefused b) = false
+sameRouted? (RoutedRefused a) (RoutedYes b) = false
+sameRouted? (RoutedRefused a) RoutedNo = false
+sameRouted? (RoutedRefused a) (RoutedRefused b) = eqb a b
+
 -- the answer is yes if that is expected, and no if not
 unfoldable pub sameAnswer? : Answered → Bool → Bool
 sameAnswer? AnsweredYes expected = expected
@@ -165,6 +191,11 @@ trialHeader y = record { vertices = y .vertices; longest = y .longest }
 unfoldable pub leaves? : Outcome Returned → ℕ → List ℕ → List ℕ → Bool
 leaves? c number edges index = eqb (c .reply .answer) number && (same? (c .memory .edges) edges && same? (c .memory .index) index)
 
+-- a route's reply, and walk memory afterwards; work memory is left zero
+unfoldable pub lights? : Outcome Routed → Routed → List ℕ → Bool
+lights? c expected after =
+    sameRouted? (c .reply) expected && (same? (c .memory .output) after && same? (c .memory .work) (replicate leastWork 0))
+
 -- the definition gives what the documents expect
 unfoldable pub holds? : Case → Bool
 holds? (repeats pattern expected) = same? (minRepeat pattern) expected
@@ -172,6 +203,8 @@ holds? (written pattern expected) = eqb (timesWritten pattern) expected
 holds? (searches y s t pattern limit expected) =
     sameReply? (searchCall (trialHeader y) s t pattern limit (lent (y .edges) [] (replicate leastWork 0)) .reply) expected
 holds? (queries y index s t pattern expected) = sameAnswer? (queryCall (trialHeader y) s t pattern (lent (y .edges) index (replicate leastWork 0)) .reply) expected
+holds? (routes y s t pattern walk expected after) =
+    lights? (routeCall (trialHeader y) s t pattern (lentOut (y .edges) (replicate leastWork 7) walk)) expected after
 holds? (indexed y expected) = same? (entriesOf y) expected
 holds? (counts y expected) = eqb (length (entriesOf y)) expected
 holds? (reads card slots room number edges index) = leaves? (readCall card (buildLent (replicate slots 0) room)) number edges index

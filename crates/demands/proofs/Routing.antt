@@ -1,0 +1,104 @@
+-- The route's call on any record and memory: its refusals are the plain check's, and what it lights once its checks have passed.
+use mathlib.Core.Path.{_≡_, refl, sym, ap, _∙_}
+use mathlib.Core.Bool.{true}
+use mathlib.Core.List.{List, [], _∷_}
+use Prim.Native.Nat.{ℕ, zero, suc, _*_, _≤_, _<_}
+use native.Mathlib.Omega.{arith}
+use lib.Dec.{leb}
+use lib.ListN.{length}
+use Rattle.model.specs.Limits.{mostVertices, mostLongest, leastWork}
+use Rattle.model.specs.Edges.{Graph, Bounds, standing}
+use Rattle.model.specs.Patterns.{Keyed}
+use Rattle.model.specs.Walks.{Runs}
+use Rattle.model.specs.Routes.{Routed, Yes, No, Refused}
+use Rattle.model.specs.Computed.Edges.{edgeMemory?}
+use Rattle.model.specs.Computed.Patterns.{keyed?}
+use Rattle.model.specs.Computed.Routes.{routeOf}
+use Rattle.model.proofs.Tests.{test-yields, test-fails, test-le, both-ways}
+use Rattle.model.proofs.Memory.{edge-memory}
+use Rattle.model.proofs.Search.{told}
+use Rattle.model.proofs.Routes.{candidate-long, candidate-runs, route-short}
+use Rattle.model.proofs.RouteSearch.{RoutedBy, lit, dark, route-of}
+use Rattle.calls.specs.Checks.{vertices?, longest?, ends?, Check}
+use Rattle.calls.specs.Call.{Header, graphOf, Memory}
+use Rattle.calls.specs.Search.{searchRefusal, searchCall}
+use Rattle.calls.specs.Route.{lighting, routeCall}
+use Rattle.calls.proofs.Passing.{passing}
+use Rattle.calls.proofs.Query.{Allowed, allowed}
+use Rattle.demands.specs.Demand1.{searchNumber}
+use Rattle.demands.proofs.Demand1.{yesNo, told-none}
+use Rattle.demands.specs.Demand2.{Lit, lit as is-lit, short, none}
+
+-- a route's edges, or none, as they are lit
+lit-by : {g : Graph} {l : List ℕ} {s t : ℕ} (es : List ℕ) → 1 ≤ length l → RoutedBy g l s t es → (m : Memory)
+    → Lit g l s t (m .output) (lighting es m .reply) (lighting es m .memory .output)
+unfolding lighting
+lit-by [] full (lit r) m = absurd (let z = candidate-long full (r .runs) in omega arith)
+lit-by [] full (dark d) m = none d
+lit-by (x ∷ es) full (lit r) m =
+    let fits = test-le (length (x ∷ es)) (length (m .output)) in
+    both-ways (leb (length (x ∷ es)) (length (m .output)))
+    (λ e. rw e (is-lit (x ∷ es) r (test-yields fits e)))
+    (λ e. rw e (short (x ∷ es) r (let z = test-fails fits e in omega arith)))
+
+-- a route is given exactly if a walk runs the pattern, where walk memory is long enough for any
+module _ {g : Graph} {l : List ℕ} {s t : ℕ} (bounds : Bounds (g .vertices) (g .longest)) (keyed : Keyed (g .longest) l) (hs : s < g .vertices) (ht : t < g .vertices) where
+  pub lit-runs : {walk after : List ℕ} {r : Routed} {n : ℕ} → Lit g l s t walk r after → r ≡ Yes n → Runs g l s t
+  lit-runs (is-lit es r h) e = candidate-runs (r .runs)
+  lit-runs (short es r h) e = candidate-runs (r .runs)
+  lit-runs (none d) e = absurd (let z : 1 ≡ 0 = ap yesNo e in omega arith)
+
+  pub runs-lit : {walk after : List ℕ} {r : Routed} → mostLongest * mostVertices ≤ length walk → Lit g l s t walk r after → Runs g l s t → (n : ℕ) × (r ≡ Yes n)
+  runs-lit long (is-lit es r h) p = (length es, refl)
+  runs-lit long (short es r h) p =
+      absurd (let z = route-short g l s t (bounds .vertices-most) (keyed .long) hs ht r in omega (arith, z, keyed .short, bounds .longest-most))
+  runs-lit long (none d) p = absurd (d p)
+
+module _ (h : Header) (s t : ℕ) (l : List ℕ) (m : Memory) where
+  abbrev graph : Graph
+  graph = graphOf h (standing (m .edges))
+
+  abbrev checks : List Check
+  checks =
+      (1, vertices? (h .vertices))
+      ∷ (2, longest? (h .longest))
+      ∷ (3, edgeMemory? (h .vertices) (m .edges))
+      ∷ (4, leb leastWork (length (m .work)))
+      ∷ (10, ends? (h .vertices) s t)
+      ∷ (11, keyed? (h .longest) l)
+      ∷ []
+
+  module _ (none : searchRefusal h s t l m ≡ 0) where
+    -- what the plain check's checks leave
+    pub search-allowed : Allowed h s t l × (edgeMemory? (h .vertices) (m .edges) ≡ true)
+    search-allowed = let (v, (k, (edges, (_, (ends, (keyed, _)))))) = passing checks tt (unfold searchRefusal in none) in (allowed h s t l v k ends keyed, edges)
+
+    pub route-lit : Lit graph l s t (m .output) (routeCall h s t l m .reply) (routeCall h s t l m .memory .output)
+    unfolding routeCall
+    route-lit =
+        let (a, e) = search-allowed in
+        let (_, o) = edge-memory (h .vertices) (m .edges) e in
+        rw none (lit-by (routeOf graph l s t) (a .keyed .long)
+        (route-of graph l s t (a .bounds .vertices-most) (a .keyed .long) (o .sorted) (a .start-vertex) (a .destination-vertex)) m)
+
+  pub route-refuses : {n : ℕ} → searchRefusal h s t l m ≡ suc n → routeCall h s t l m .reply ≡ Refused (suc n)
+  unfolding routeCall
+  route-refuses e = rw e refl
+
+  -- a plain check tells the number of its refusal, or none
+  pub search-number : (limit : ℕ) → searchNumber (searchCall h s t l limit m .reply) ≡ searchRefusal h s t l m
+  unfolding searchCall
+  search-number limit = go (searchRefusal h s t l m) refl
+    where
+      go : (n : ℕ) → searchRefusal h s t l m ≡ n → searchNumber (searchCall h s t l limit m .reply) ≡ searchRefusal h s t l m
+      go zero e = rw e (told-none (told graph l s t limit))
+      go (suc n) e = rw e refl
+
+  pub route-told : (limit : ℕ) →
+      let n = searchNumber (searchCall h s t l limit m .reply) in
+      (1 ≤ n → routeCall h s t l m .reply ≡ Refused n) × (n ≡ 0 → Lit graph l s t (m .output) (routeCall h s t l m .reply) (routeCall h s t l m .memory .output))
+  route-told limit = rw (search-number limit) (go (searchRefusal h s t l m) refl, route-lit)
+    where
+      go : (n : ℕ) → searchRefusal h s t l m ≡ n → 1 ≤ searchRefusal h s t l m → routeCall h s t l m .reply ≡ Refused (searchRefusal h s t l m)
+      go zero e k = absurd (omega (arith, e, k))
+      go (suc n) e k = route-refuses e ∙ ap Refused (sym e)
