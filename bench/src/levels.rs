@@ -1,7 +1,7 @@
 //! A breadth-first search in plain Rust: which levels the pattern's walks reach, after the same check of edge memory as the plain check's.
 
 /// Rising edges of so many vertices, then zeros: how many, or none if it is no edge memory.
-fn standing(vertices: u32, edges: &[u32]) -> Option<usize> {
+pub fn standing(vertices: u32, edges: &[u32]) -> Option<usize> {
     let n = edges.iter().position(|&x| x == 0).unwrap_or(edges.len());
     let rising = edges[..n].windows(2).all(|pair| pair[0] < pair[1]);
     let valid = edges[..n].iter().all(|&x| x / 4096 < vertices && (1..=8).contains(&(x / 256 % 16)) && x % 256 < vertices);

@@ -7,6 +7,7 @@ use crate::gen::{self, Layout};
 use crate::lent::Lent;
 use crate::library::*;
 use crate::reference::*;
+use crate::routes;
 use crate::trials::{CARD_A, SLOTS_A};
 
 pub fn run(t: &mut Tester) {
@@ -156,12 +157,16 @@ fn of_largest(t: &mut Tester, edges: &[Edge], memory: &mut Memory) {
         let check = Check { start, destination, pattern, allowed: t.rng.pick(&[3, 1025]) };
         let mut lent = Memory { edges: memory.edges.clone(), index: vec![], work: t.rng.words(4096) };
         t.search([256, 4], &check, &mut lent);
+        if t.rng.one_in(4) {
+            lent.work = t.rng.words(4096);
+            routes::ask_in(t, [256, 4], &check, &lent);
+        }
     }
     memory.work = t.rng.words(memory.index.len() + 4096);
     t.change(false, [256, 4], edges[500], memory);
 }
 
-/// A search through all 1,024 pairs of vertex and labels used, one to a level.
+/// A search through all 1,024 pairs of vertex and labels used, one to a level, and its route of as many edges.
 fn longest_search(t: &mut Tester) {
     let edges: Vec<Edge> = (0..256).flat_map(|v| [(v, 1, v), (v, 2, v), (v, 3, v), (v, 4, (v + 1) % 256)]).collect();
     let mut memory = Memory { edges: gen::edge_memory(&edges, EDGES), index: vec![], work: vec![] };
@@ -172,6 +177,18 @@ fn longest_search(t: &mut Tester) {
         let check = Check { start: 7, destination: 7, pattern: vec![1, 2, 3, 4], allowed };
         let reply = t.search([256, 4], &check, &mut memory);
         t.expect("the longest search", reply, expected);
+    }
+    for (slots, expected) in [(0, (18, 0)), (1023, (18, 0)), (1024, (YES, 1024)), (1025, (YES, 1024))] {
+        memory.work = t.rng.words(4096);
+        let check = Check { start: 7, destination: 7, pattern: vec![1, 2, 3, 4], allowed: 0 };
+        let mut walk = t.rng.short_words(slots);
+        let reply = t.route([256, 4], &check, &mut memory, &mut walk);
+        t.expect("the longest route", reply, expected);
+        if reply.0 == YES {
+            // All 1,024, from the first at vertex 7 on.
+            let round = edges.iter().cycle().skip(28).take(1024).map(|edge| edge_number(*edge));
+            t.expect("its edges", round.eq(walk[..1024].iter().copied()), true);
+        }
     }
 }
 
@@ -206,6 +223,11 @@ fn longest_again(t: &mut Tester) {
             let reply = t.search([256, 4], &check, &mut memory);
             t.expect("a search for a pattern that goes round", reply, expected);
         }
+        memory.work = t.rng.words(4096);
+        let check = Check { start, destination, pattern, allowed: 0 };
+        let mut walk = t.rng.short_words(EDGES);
+        let reply = t.route([256, 4], &check, &mut memory, &mut walk);
+        t.expect("a route that goes round", reply, if expected.0 == YES { expected } else { (0, 0) });
     }
 }
 
@@ -251,6 +273,7 @@ fn in_memories(t: &mut Tester, slots: usize, index: usize, work: usize) {
 }
 
 /// No edge and work memory at all, as null pointers: enough for a pattern written once; 4 for one that repeats itself.
+/// No walk memory: enough for a no; 18 for a yes.
 fn no_memory(t: &mut Tester) {
     let (record, pattern) = ([3, 2], [1, 1]);
     let (edges, work) = (std::ptr::null(), std::ptr::null_mut());
@@ -259,6 +282,13 @@ fn no_memory(t: &mut Tester) {
         let (r, p, i) = (record.as_ptr(), pattern.as_ptr(), SLOTS_A.as_ptr());
         let reply = unsafe { rlc_query(r, 2, 0, 2, p, labels, edges, 0, i, SLOTS_A.len(), work, 0) };
         t.expect("a query without edge and work memory", reply, expected);
+    }
+    let (slots, mut work) = ([257, 4354, 4608], [0; 4096]);
+    for (edges, count, expected) in [(slots.as_ptr(), 3, 18 << 32), (edges, 0, 0)] {
+        t.calls += 1;
+        let (r, p, w) = (record.as_ptr(), pattern.as_ptr(), work.as_mut_ptr());
+        let reply = unsafe { rlc_route(r, 2, 0, 2, p, 1, edges, count, std::ptr::null_mut(), 0, w, 4096) };
+        t.expect("a route without walk memory", reply, expected);
     }
 }
 
@@ -273,8 +303,9 @@ fn record_lengths(t: &mut Tester) {
         let mut card: Lent<u8> = Lent::new(&CARD_A, 81);
         let mut output: Lent<u8> = Lent::new(&[3; 30], 82);
         let mut pattern: Lent<u8> = Lent::new(&[1, 1], 83);
+        let mut walk: Lent<u32> = Lent::new(&[6; 4], 84);
         let wide = 255 << 32;
-        let (r, e, i) = (record.pointer(), edges.pointer(), index.pointer());
+        let (r, e, i, l) = (record.pointer(), edges.pointer(), index.pointer(), walk.pointer());
         let (w, c, o, p) = (work.pointer(), card.pointer(), output.pointer(), pattern.pointer());
         unsafe {
             t.expect("open, 255", rlc_open(r, n, e, 3, i, 20), 255);
@@ -284,19 +315,19 @@ fn record_lengths(t: &mut Tester) {
             for labels in [1, 2] {
                 t.expect("query, 255", rlc_query(r, n, 0, 1, p, labels, e, 3, i, 20, w, 4116), 255);
                 t.expect("search, 255", rlc_search(r, n, 0, 1, p, labels, 5, e, 3, w, 4116), wide);
+                t.expect("route, 255", rlc_route(r, n, 0, 1, p, labels, e, 3, l, 4, w, 4116), wide);
             }
             t.expect("read_card, 255", rlc_read_card(r, n, c, 18, e, 3, i, 20, w, 4116), 255);
             t.expect("write_card, 255", rlc_write_card(r, n, e, 3, o, 30), wide);
         }
-        let untouched = record.content() == values
-            && edges.content() == [257, 0, 0]
-            && index.content() == [9; 20]
-            && work.content() == [5; 4116];
-        let rest = card.content() == CARD_A && output.content() == [3; 30] && pattern.content() == [1, 1];
+        let untouched = record.content() == values && edges.content() == [257, 0, 0] && index.content() == [9; 20];
+        let rest = work.content() == [5; 4116] && walk.content() == [6; 4] && output.content() == [3; 30];
+        let read = card.content() == CARD_A && pattern.content() == [1, 1];
         let guards = record.guards_hold() && edges.guards_hold() && index.guards_hold() && work.guards_hold();
-        let more = card.guards_hold() && output.guards_hold() && pattern.guards_hold();
-        t.expect("nothing touched after 255", untouched && rest && guards && more, true);
-        t.calls += 9;
+        let more = card.guards_hold() && output.guards_hold() && pattern.guards_hold() && walk.guards_hold();
+        t.expect("nothing touched after 255", untouched && rest && read && guards && more, true);
+        t.counts.other_records += 1;
+        t.calls += 11;
     }
 }
 

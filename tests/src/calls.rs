@@ -2,11 +2,13 @@
 //! call's order: the first is the reply, an empty list is acceptance. What the others are good for is the count of
 //! pairs of refusals that applied at once.
 //!
-//! If an earlier condition applies, a later one is judged as far as it has a meaning: 7, 8, 9, 13 and 17 if edge
+//! If an earlier condition applies, a later one is judged as far as it has a meaning: 7, 8, 9, 13, 17 and 18 if edge
 //! memory reads as rising edges of some layout, 13 by patterns of at most 2 labels (longer ones only add
-//! entries), and a query's 3 and 4 if its pattern is labels that repeat themselves, also too many of them.
+//! entries), 18 also by patterns of too many labels, and a query's 3 and 4 if its pattern is labels that repeat
+//! themselves, also too many of them.
 
 use crate::reference::*;
+use crate::shortest::{self, Walk};
 use std::collections::BTreeSet;
 
 /// Vertices and longest pattern: document 01's record.
@@ -150,7 +152,7 @@ pub fn query(record: Record, start: u32, destination: u32, pattern: &[u8], memor
     (refusals, spelled_ends(&edges, start, &keyed(pattern)).contains(&destination))
 }
 
-/// What a plain check is asked.
+/// What a plain check is asked. A route is asked the same; its allowance has no meaning.
 #[derive(Clone, Debug)]
 pub struct Check {
     pub start: u32,
@@ -159,23 +161,50 @@ pub struct Check {
     pub allowed: u32,
 }
 
-/// The level search (plain check): its refusals, and what it found if there are none.
-pub fn search(record: Record, check: &Check, edges: &[u32], work: &mut [u64]) -> (Refusals, Found) {
+fn plain_checks(record: Record, check: &Check, edges: &[u32], work: &[u64]) -> Refusals {
     let [vertices, longest] = record;
-    let refusals = applying(&[
+    applying(&[
         (1, bad_vertices(record)),
         (2, bad_longest(longest)),
         (3, bad_edges(edges, vertices)),
         (4, work.len() < WORK),
         (10, check.start >= vertices || check.destination >= vertices),
         (11, bad_pattern(&check.pattern, longest)),
-    ]);
+    ])
+}
+
+/// The level search (plain check): its refusals, and what it found if there are none.
+pub fn search(record: Record, check: &Check, edges: &[u32], work: &mut [u64]) -> (Refusals, Found) {
+    let refusals = plain_checks(record, check, edges, work);
     if !refusals.is_empty() {
         return (refusals, Found::No(0));
     }
     work.fill(0);
     let edges = standing(edges).unwrap();
     (refusals, levels(&edges, check.start, check.destination, &keyed(&check.pattern), check.allowed))
+}
+
+/// The route in this edge memory, if it reads as edges of some layout and a walk runs the pattern; otherwise empty.
+fn route_in(check: &Check, edges: &[u32]) -> Walk {
+    let edges = standing(edges).filter(|_| !check.pattern.is_empty()).unwrap_or_default();
+    shortest::route(&edges, check.start, check.destination, &keyed(&check.pattern)).unwrap_or_default()
+}
+
+/// The route: its refusals, and its edges, empty for a no. "The checks are the plain check's"; then 18, "walk memory
+/// shorter than that walk, checked last; it leaves work memory zero".
+pub fn route(record: Record, check: &Check, edges: &[u32], walk: &mut [u32], work: &mut [u64]) -> (Refusals, Walk) {
+    let mut refusals = plain_checks(record, check, edges, work);
+    if refusals.is_empty() {
+        work.fill(0);
+    }
+    let route = route_in(check, edges);
+    if walk.len() < route.len() {
+        refusals.push(18);
+    }
+    if refusals.is_empty() {
+        walk[..route.len()].copy_from_slice(&route);
+    }
+    (refusals, route)
 }
 
 /// The layout card of a header and edges.

@@ -2,6 +2,7 @@
 //! everything lent, with guard words on both sides.
 
 use crate::calls::{self, Check, Memory, Record};
+use crate::cases::Routed;
 use crate::counts::{Call, Counts};
 use crate::lent::Lent;
 use crate::library::*;
@@ -166,6 +167,38 @@ impl Tester {
         self.same(&call, "record", &lent_record, &record);
         self.same(&call, "pattern", &pattern, &check.pattern);
         self.same(&call, "edge memory", &edges, &memory.edges);
+        self.same(&call, "work memory", &work, &memory.work);
+        expected
+    }
+
+    /// The route. Returns (0 no, 100 yes, or a refusal; its edges); walk and work memory become what the call leaves.
+    pub fn route(&mut self, record: Record, check: &Check, memory: &mut Memory, walk: &mut [u32]) -> (u32, u32) {
+        let mut lent_record = self.lend(&record, |n| n as u32);
+        let mut pattern = self.lend(&check.pattern, |n| n as u8);
+        let (mut edges, _, mut work) = self.lend_memory(memory);
+        let mut lent_walk = self.lend(walk, |n| n as u32);
+        let (refusals, route) = calls::route(record, check, &memory.edges, walk, &mut memory.work);
+        let expected = match (self.count(Call::Route, &refusals), route.len() as u32) {
+            (0, 0) => (0, 0),
+            (0, count) => (YES, count),
+            (number, _) => (number, 0),
+        };
+        if refusals.is_empty() || refusals == [18] {
+            let edges = standing(&memory.edges).unwrap();
+            let (walk_slots, work_slots) = (lent_walk.len(), work.len());
+            self.counts.add_route(&Routed { check, edges, route, walk_slots, work_slots });
+        }
+        let (p, e) = ((pattern.pointer(), pattern.len()), (edges.pointer(), edges.len()));
+        let (l, w) = ((lent_walk.pointer(), lent_walk.len()), (work.pointer(), work.len()));
+        let (r, s, t) = (lent_record.pointer(), check.start, check.destination);
+        let got = unsafe { rlc_route(r, 2, s, t, p.0, p.1, e.0, e.1, l.0, l.1, w.0, w.1) };
+        let got = ((got >> 32) as u32, got as u32);
+        let call = || format!("route {record:?} {check:?} {} walk of {}", show(memory), l.1);
+        self.same_reply(&call, got, expected);
+        self.same(&call, "record", &lent_record, &record);
+        self.same(&call, "pattern", &pattern, &check.pattern);
+        self.same(&call, "edge memory", &edges, &memory.edges);
+        self.same(&call, "walk memory", &lent_walk, walk);
         self.same(&call, "work memory", &work, &memory.work);
         expected
     }

@@ -1,6 +1,8 @@
 //! How often each call was accepted, gave each refusal, and had each pair of refusals apply at once (the
-//! earlier one returned); and how the questions by patterns that repeat themselves were answered.
+//! earlier one returned); how the questions by patterns that repeat themselves were answered; and what the routes were
+//! like.
 
+use crate::cases::{Routed, CASES};
 use std::collections::BTreeMap;
 
 #[derive(Clone, Copy, PartialEq, Eq, PartialOrd, Ord, Debug)]
@@ -10,25 +12,28 @@ pub enum Call {
     Remove,
     Query,
     Search,
+    Route,
     ReadCard,
     WriteCard,
 }
 
-/// Each call's refusals in document 01's order, with document 02's for the query.
-pub const ORDERS: [(Call, &[u32]); 7] = [
+/// Each call's refusals in document 01's order, with document 02's for the query and the route.
+pub const ORDERS: [(Call, &[u32]); 8] = [
     (Call::Open, &[1, 2, 3]),
     (Call::Insert, &[1, 2, 3, 4, 5, 6, 7, 9, 13]),
     (Call::Remove, &[1, 2, 3, 4, 5, 6, 8, 13]),
     (Call::Query, &[1, 2, 10, 11, 12, 3, 4]),
     (Call::Search, &[1, 2, 3, 4, 10, 11]),
+    (Call::Route, &[1, 2, 3, 4, 10, 11, 18]),
     (Call::ReadCard, &[14, 15, 2, 16, 3, 9, 4, 13]),
     (Call::WriteCard, &[1, 2, 3, 17]),
 ];
 
 /// Pairs that cannot both apply with none before them.
-pub const IMPOSSIBLE: [(Call, u32, u32, &str); 2] = [
+pub const IMPOSSIBLE: [(Call, u32, u32, &str); 3] = [
     (Call::Insert, 5, 7, "edge memory that passed 3 holds no edge with an end that is no vertex"),
     (Call::Insert, 6, 7, "edge memory that passed 3 holds no edge with a label not 1 to 8"),
+    (Call::Route, 10, 18, "no walk along edges that passed 3 has an end that is no vertex"),
 ];
 
 /// The answers to a question by a pattern that repeats itself; the second is the one that folding would get wrong.
@@ -40,6 +45,9 @@ pub struct Counts {
     refused: BTreeMap<(Call, u32), u64>,
     pairs: BTreeMap<(Call, u32, u32), u64>,
     again: BTreeMap<&'static str, u64>,
+    routes: BTreeMap<&'static str, u64>,
+    /// Records of another length than 2, put to all calls.
+    pub other_records: u64,
 }
 
 impl Counts {
@@ -71,6 +79,23 @@ impl Counts {
             println!("a pattern that repeats itself, {answer}: {count}");
             if count == 0 {
                 missing.push(format!("a pattern that repeats itself: {answer} not reached"));
+            }
+        }
+    }
+
+    /// A route that was answered, or refused with 18 alone.
+    pub fn add_route(&mut self, routed: &Routed) {
+        for (case, _) in CASES.iter().filter(|(_, is_so)| is_so(routed)) {
+            *self.routes.entry(*case).or_default() += 1;
+        }
+    }
+
+    fn report_routes(&self, missing: &mut Vec<String>) {
+        let cases = CASES.iter().map(|(case, _)| (*case, self.routes.get(case).copied().unwrap_or(0)));
+        for (case, count) in cases.chain([("a record of another length than 2", self.other_records)]) {
+            println!("Route: {case}: {count}");
+            if count == 0 {
+                missing.push(format!("Route: {case} not reached"));
             }
         }
     }
@@ -108,6 +133,7 @@ impl Counts {
             println!("  pairs {}", of_call.join(" "));
         }
         self.report_again(&mut missing);
+        self.report_routes(&mut missing);
         for (call, first, other, reason) in IMPOSSIBLE {
             println!("impossible: {call:?} {first}+{other}: {reason}");
         }

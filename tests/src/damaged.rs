@@ -5,6 +5,7 @@ use crate::calls::{Check, Memory, Record};
 use crate::compare::Tester;
 use crate::gen::{self, Layout};
 use crate::reference::*;
+use crate::routes;
 
 pub fn round(t: &mut Tester) {
     t.part = "damaged";
@@ -87,6 +88,9 @@ fn questions(t: &mut Tester, layout: &Layout, record: Record, memory: &Memory) {
         let allowed = t.rng.pick(&[0, 1, 2, 3, 4, 7, 1024, 1025, u32::MAX]);
         let check = Check { start, destination, pattern, allowed };
         t.search(record, &check, &mut memory.clone());
+        if t.rng.one_in(2) {
+            routes::ask_in(t, record, &check, memory);
+        }
     }
 }
 

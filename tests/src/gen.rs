@@ -1,6 +1,6 @@
 //! Random layouts, memories and arguments, right ones and wrong ones.
 
-use crate::calls::{fill, Memory, Record, WORK};
+use crate::calls::{fill, Check, Memory, Record, EDGES, WORK};
 use crate::reference::*;
 use crate::rng::Rng;
 use std::collections::BTreeSet;
@@ -110,6 +110,70 @@ pub fn bad_pattern(rng: &mut Rng, layout: &Layout) -> Vec<u8> {
         }
     }
     pattern
+}
+
+/// The question that a walk of so many edges answers, if this one comes so far; its pattern is the walk's labels.
+pub fn along(rng: &mut Rng, edges: &[Edge], count: usize) -> Option<Check> {
+    let mut walk: Vec<Edge> = Vec::new();
+    while walk.len() < count {
+        let at = walk.last().map(|edge| edge.2);
+        let next: Vec<Edge> = edges.iter().copied().filter(|edge| at.is_none_or(|at| edge.0 == at)).collect();
+        if next.is_empty() {
+            return None;
+        }
+        walk.push(rng.pick(&next));
+    }
+    let (start, destination) = (walk[0].0, walk[count - 1].2);
+    Some(Check { start, destination, pattern: walk.iter().map(|edge| edge.1 as u8).collect(), allowed: 0 })
+}
+
+/// Walk memory for a route of so many edges, full of noise: exact, one slot short, of no slots, longer, or any.
+pub fn walk_memory(rng: &mut Rng, count: usize) -> Vec<u32> {
+    let short = rng.below(count.max(1));
+    let slots = rng.pick(&[count, count, count.saturating_sub(1), 0, short, count + 1, count + 9, EDGES]);
+    rng.short_words(slots)
+}
+
+/// Every layout of so many vertices and labels: all sets of edges.
+pub fn every_layout(vertices: u32, labels: u32) -> Vec<Vec<Edge>> {
+    let mut sets: Vec<Vec<Edge>> = vec![vec![]];
+    for from in 0..vertices {
+        for (label, to) in (1..=labels).flat_map(|label| (0..vertices).map(move |to| (label, to))) {
+            let with: Vec<Vec<Edge>> = sets.iter().map(|set| [&set[..], &[(from, label, to)]].concat()).collect();
+            sets.extend(with);
+        }
+    }
+    sets
+}
+
+/// Every question in so many vertices by 1 to `longest` of so many labels.
+pub fn every_question(vertices: u32, labels: u32, longest: usize) -> Vec<Check> {
+    let fits = |pattern: &Vec<u32>| pattern.len() <= longest && pattern.iter().all(|label| *label <= labels);
+    let mut questions = Vec::new();
+    for pattern in table_patterns().into_iter().filter(fits) {
+        let pattern: Vec<u8> = pattern.iter().map(|label| *label as u8).collect();
+        for (start, destination) in (0..vertices).flat_map(|start| (0..vertices).map(move |end| (start, end))) {
+            questions.push(Check { start, destination, pattern: pattern.clone(), allowed: 0 });
+        }
+    }
+    questions
+}
+
+/// Layers of vertices, numbered in any order, and a question from the first layer to the last: most vertices of a layer
+/// have an edge to most of the next, with the label that the pattern then asks for. So many walks have the fewest
+/// edges, which are some whole patterns.
+pub fn layers(rng: &mut Rng, layers: usize, width: usize, pattern: &[u8]) -> (Vec<Edge>, Check) {
+    let mut names: Vec<u32> = (0..256).collect();
+    (0..256).for_each(|i| names.swap(i, rng.from_to(i, 255)));
+    let mut edges = BTreeSet::new();
+    for i in 0..(layers - 1) * width {
+        let next = (i / width + 1) * width;
+        let label = pattern[i / width % pattern.len()] as u32;
+        let to: Vec<usize> = (next..next + width).filter(|_| !rng.one_in(3)).collect();
+        edges.extend(to.iter().map(|to| (names[i], label, names[*to])));
+    }
+    let (start, destination) = (names[0], names[(layers - 1) * width]);
+    (edges.into_iter().collect(), Check { start, destination, pattern: pattern.to_vec(), allowed: 0 })
 }
 
 pub fn no_vertex(rng: &mut Rng, vertices: u32) -> u32 {

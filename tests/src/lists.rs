@@ -1,5 +1,5 @@
 //! Random lists of openings, insertions, removals and card readings, refused ones among them, held to the
-//! ledger after each call; and queries and plain checks on the memory that they leave, whole and with entries
+//! ledger after each call; and queries, plain checks and routes on the memory that they leave, whole and with entries
 //! struck out, held to whether a walk of the ledger's edges runs the pattern as keyed.
 
 use crate::calls::{card_of, keyed, repeats_itself, Check, Memory, Record};
@@ -8,6 +8,7 @@ use crate::compare::{Tester, YES};
 use crate::gen::{self, Layout};
 use crate::ledger::{Fed, Ledger, Reply, Slots};
 use crate::reference::*;
+use crate::routes;
 
 pub fn round(t: &mut Tester) {
     t.part = "lists";
@@ -207,6 +208,12 @@ fn ask_one(t: &mut Tester, ground: &Ground, memory: &mut Memory, pattern: Vec<u8
     let (found, _) = t.search(record, &check, memory);
     if work >= 4096 && allowed >= 1025 {
         t.expect("yes to a plain check exactly where a walk runs the pattern as keyed", found, expected);
+    }
+    if t.rng.one_in(2) {
+        let work = t.rng.pick(&[4096, 4096, 4097, 4096 + memory.index.len()]);
+        memory.work = t.rng.words(work);
+        let reply = routes::ask_in(t, record, &check, memory);
+        t.expect("a walk for the panel exactly where the query is a yes", reply != 0, expected == YES);
     }
 }
 

@@ -3,11 +3,12 @@
 //!
 //! rlc_tests [SEED [ROUNDS [FIRST]]]: the fixed parts, then rounds FIRST, FIRST + 1, ... of random ones. A
 //! round's inputs depend on the seed and its number only. Status 0 and a summary if all agrees; 1 at the
-//! first disagreement, or if a refusal or a pair of refusals was not reached.
+//! first disagreement, or if a refusal, a pair of refusals or a case of a route was not reached.
 
 mod bounds;
 mod calls;
 mod cards;
+mod cases;
 mod compare;
 mod counts;
 mod damaged;
@@ -21,7 +22,9 @@ mod pairs;
 mod reference;
 mod repeats;
 mod rng;
+mod routes;
 mod selfcheck;
+mod shortest;
 mod trials;
 
 use compare::Tester;
@@ -47,6 +50,8 @@ fn main() {
     println!("trials: {} calls, {:.1} s", t.calls, begin.elapsed().as_secs_f64());
     bounds::run(&mut t);
     println!("bounds: {} calls, {:.1} s", t.calls, begin.elapsed().as_secs_f64());
+    routes::run(&mut t);
+    println!("routes: {} calls, {:.1} s", t.calls, begin.elapsed().as_secs_f64());
     repeats::run(&mut t, REPEAT_TABLE);
     println!("repeats: {} calls, {:.1} s", t.calls, begin.elapsed().as_secs_f64());
     let listings = listing::run(&mut t, LISTING);
@@ -58,6 +63,7 @@ fn main() {
         lists::round(&mut t);
         damaged::round(&mut t);
         cards::round(&mut t);
+        routes::round(&mut t);
     }
     let missing = t.counts.report();
     missing.iter().for_each(|line| println!("MISSING: {line}"));

@@ -2,11 +2,12 @@
 //! now and then a third. The compared calls say which refusals did apply, and the counts at the end which
 //! pairs were reached.
 
-use crate::calls::{card_of, repeats_itself, Check, Memory, EDGES};
+use crate::calls::{card_of, keyed, repeats_itself, Check, Memory, EDGES};
 use crate::compare::Tester;
 use crate::counts::{Call, ORDERS};
 use crate::gen::{self, Layout};
 use crate::reference::*;
+use crate::shortest;
 
 pub fn round(t: &mut Tester) {
     t.part = "pairs";
@@ -44,6 +45,7 @@ fn put(t: &mut Tester, call: Call, forced: &[u32]) {
         Call::Remove => change(t, false, forced),
         Call::Query => query(t, forced),
         Call::Search => search(t, forced),
+        Call::Route => route(t, forced),
         Call::ReadCard => read_card(t, forced),
         Call::WriteCard => write_card(t, forced),
     }
@@ -67,7 +69,7 @@ fn force_edges(t: &mut Tester, forced: &[u32], layout: &mut Layout, edges: &mut 
     if !forced.contains(&3) {
         return gen::edge_memory(edges, edges.len() + more);
     }
-    let looked_into = forced.iter().any(|number| [7, 8, 9, 13, 17].contains(number));
+    let looked_into = forced.iter().any(|number| [7, 8, 9, 13, 17, 18].contains(number));
     let kind = t.rng.below(if looked_into { 2 } else { 3 });
     if kind == 0 && full && t.rng.one_in(4) {
         *edges = gen::many_edges(&mut t.rng, EDGES + 1);
@@ -218,6 +220,43 @@ fn search(t: &mut Tester, forced: &[u32]) {
     let mut memory = gen::noise(&mut t.rng, 0, 0, work);
     memory.edges = slots;
     t.search(layout.record, &check, &mut memory);
+}
+
+/// For 18 some walk answers the question, with 11 too one of more than k edges, and with 10 too one from or to the
+/// vertex that an end's last byte names. Walk memory is too short for the walk.
+fn walked(t: &mut Tester, forced: &[u32], layout: &Layout, edges: &[Edge]) -> Option<(Check, usize)> {
+    let longest = layout.record[1] as usize;
+    let any = t.rng.from_to(1, longest);
+    let length = if forced.contains(&11) { longest + t.rng.pick(&[1, 1, 2, 3, 4, 100]) } else { any };
+    let mut check = gen::along(&mut t.rng, edges, length)?;
+    let count = shortest::route(edges, check.start, check.destination, &keyed(&check.pattern))?.len();
+    if forced.contains(&10) {
+        let more = t.rng.pick(&[256, 512, 65_536, 1 << 31]);
+        if t.rng.one_in(2) {
+            check.start += more
+        } else {
+            check.destination += more
+        }
+    }
+    let any = t.rng.below(count);
+    Some((check, t.rng.pick(&[0, count - 1, any])))
+}
+
+fn route(t: &mut Tester, forced: &[u32]) {
+    let (mut layout, mut edges) = layout_and_edges(t);
+    let mut question = None;
+    while forced.contains(&18) && question.is_none() {
+        (layout, edges) = layout_and_edges(t);
+        question = walked(t, forced, &layout, &edges);
+    }
+    let slots = force_edges(t, forced, &mut layout, &mut edges, false);
+    let any = (force_question(t, forced, &layout), t.rng.pick(&[0, 1, 4, 1024]));
+    let (check, walk) = question.unwrap_or(any);
+    let work = if forced.contains(&4) { gen::short_work(&mut t.rng, 0) } else { gen::enough_work(&mut t.rng, 0) };
+    force_record(t, forced, &mut layout);
+    let mut memory = Memory { edges: slots, ..gen::noise(&mut t.rng, 0, 0, work) };
+    let mut walk = t.rng.short_words(walk);
+    t.route(layout.record, &check, &mut memory, &mut walk);
 }
 
 fn read_card(t: &mut Tester, forced: &[u32]) {

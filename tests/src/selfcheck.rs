@@ -1,13 +1,19 @@
 //! The second implementation held to facts that documents 01, 02 and 004 print.
 
-use crate::calls::keyed;
+use crate::calls::{keyed, Check};
 use crate::compare::YES;
+use crate::gen;
 use crate::reference::*;
-use crate::trials::{table_2_slots, CARD_A, FIGURE_2, KEYED_TWICE, LAYOUT_B, SLOTS_A};
+use crate::rng::Rng;
+use crate::shortest::*;
+use crate::trials::{table_2_slots, CARD_A, FIGURE_2, KEYED_TWICE, LAYOUT_A, LAYOUT_B, ROUTES, SLOTS_A};
 
 pub fn run() {
     keyed_twice();
+    routes_by_hand();
+    routes_both_ways();
     let a: Vec<Edge> = CARD_A[9..].chunks(3).map(|b| (b[0] as u32, b[1] as u32, b[2] as u32)).collect();
+    assert_eq!(a, LAYOUT_A);
     assert_eq!(determined(&a, 2), SLOTS_A);
     assert!(runs(&a, 0, 2, &[1]) && runs(&a, 0, 0, &[1, 2]));
     assert!(!runs(&a, 2, 0, &[1]) && !runs(&a, 0, 0, &[1]) && !runs(&a, 0, 0, &[2, 1]));
@@ -45,5 +51,51 @@ fn keyed_twice() {
         assert_eq!(levels(edges, start, destination, &pattern, 1025), found);
         assert_eq!(levels(edges, start, destination, &pattern, count), found);
         assert_eq!(levels(edges, start, destination, &pattern, count - 1), Found::Spent(count - 1));
+    }
+}
+
+/// Both ways to find a route.
+fn routes_by_hand() {
+    for (_, edges, start, destination, pattern, route) in ROUTES {
+        let pattern = keyed(pattern);
+        let expected = Some(route.to_vec()).filter(|route| !route.is_empty());
+        let walks = written_down(edges, start, destination, &pattern).unwrap();
+        assert_eq!(walks.iter().min(), expected.as_ref());
+        assert_eq!(by_marks(edges, start, destination, &pattern), expected);
+        assert_eq!(is_walk(edges, start, destination, &pattern, route), expected.is_some());
+    }
+}
+
+/// On every layout of two vertices and two labels and of three vertices and one label, and on some layers with at most
+/// 81 walks.
+fn routes_both_ways() {
+    for (vertices, labels) in [(2, 2), (3, 1)] {
+        let questions = gen::every_question(vertices, labels, 4);
+        for edges in gen::every_layout(vertices, labels) {
+            questions.iter().for_each(|check| both_ways(&edges, check));
+        }
+    }
+    let mut rng = Rng::new(3);
+    for _ in 0..2000 {
+        let (layers, width) = (rng.from_to(2, 5), rng.from_to(2, 3));
+        let pattern = rng.pick(&[vec![1], vec![2, 2], vec![1, 2], vec![1, 2, 1, 2]]);
+        let (edges, check) = gen::layers(&mut rng, layers, width, &pattern);
+        both_ways(&edges, &check);
+    }
+}
+
+/// Both ways find the same route, with as many edges as levels. For a no there may be too many walks to write down.
+fn both_ways(edges: &[Edge], check: &Check) {
+    let (start, destination, pattern) = (check.start, check.destination, keyed(&check.pattern));
+    let found = by_marks(edges, start, destination, &pattern);
+    let walks = written_down(edges, start, destination, &pattern);
+    let levels = levels(edges, start, destination, &pattern, 1025);
+    match &found {
+        Some(walk) => {
+            assert!(is_walk(edges, start, destination, &pattern, walk));
+            assert_eq!(levels, Found::Yes(walk.len() as u32));
+            assert_eq!(walks.unwrap().into_iter().min(), found);
+        }
+        None => assert!(walks.is_none_or(|walks| walks.is_empty()) && matches!(levels, Found::No(_))),
     }
 }

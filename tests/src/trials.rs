@@ -7,6 +7,7 @@ use crate::reference::*;
 
 pub const CARD_A: [u8; 18] =
     [0x50, 0x52, 0x43, 0x00, 0x01, 0x02, 0x02, 0x00, 0x03, 0x00, 0x01, 0x01, 0x01, 0x01, 0x02, 0x01, 0x02, 0x00];
+pub const LAYOUT_A: [Edge; 3] = [(0, 1, 1), (1, 1, 2), (1, 2, 0)];
 pub const SLOTS_A: [u64; 5] = [18, 65537, 16842785, 4295032834, 4328587265];
 pub const LAYOUT_B: [Edge; 7] = [(0, 1, 2), (0, 1, 3), (0, 2, 4), (1, 1, 0), (5, 2, 1), (6, 2, 1), (7, 2, 1)];
 
@@ -66,6 +67,40 @@ pub const KEYED_TWICE: [KeyedTwice; 22] = [
     ([2, 4], &[(0, 1, 1), (1, 2, 0)], 0, 1, &[1, 2, 1], (YES, 3)),    // (1, 1); (0, 2); (1, 0)
 ];
 
+/// Vertices and k, edges, start, destination, pattern, and the route's edges, none for a no.
+pub type Route = (Record, &'static [Edge], u32, u32, &'static [u8], &'static [u32]);
+
+const SQUARE: &[Edge] = &[(0, 1, 1), (0, 1, 2), (1, 1, 3), (2, 1, 3)];
+const CROSSED: &[Edge] = &[(0, 1, 1), (0, 1, 2), (1, 1, 4), (2, 1, 3), (3, 1, 5), (4, 1, 5)];
+const ASTRAY: &[Edge] = &[(0, 1, 1), (0, 1, 2), (1, 1, 3), (2, 1, 4), (3, 1, 4)];
+const LATE: &[Edge] = &[(0, 1, 1), (1, 1, 2), (1, 1, 3), (2, 1, 4), (3, 1, 4)];
+const LOOP: &[Edge] = &[(0, 1, 0), (0, 1, 1), (0, 2, 1), (1, 1, 0), (1, 2, 1)];
+
+/// Document 02, Three, worked out by hand. Behind each is what else there is.
+pub const ROUTES: [Route; 21] = [
+    ([3, 2], &LAYOUT_A, 0, 0, &[1, 2], &[257, 4608]),
+    ([3, 2], &LAYOUT_A, 0, 2, &[1], &[257, 4354]),
+    ([3, 2], &LAYOUT_A, 2, 0, &[1], &[]),
+    ([3, 2], &LAYOUT_A, 0, 2, &[1, 1], &[257, 4354]),
+    ([3, 2], &LAYOUT_A, 0, 1, &[1, 1], &[]),            // only by 1
+    ([4, 1], SQUARE, 0, 3, &[1], &[257, 4355]),         // 258, 8451
+    ([6, 4], CROSSED, 0, 5, &[1], &[257, 4356, 16645]), // 258, 8451, 12549, of which the last is lower
+    ([6, 4], CROSSED, 0, 5, &[1, 1], &[]),
+    ([5, 4], ASTRAY, 0, 4, &[1], &[258, 8452]), // 257, 4355, 12548, one more
+    ([5, 4], ASTRAY, 0, 4, &[1, 1, 1], &[257, 4355, 12548]), // 258, 8452, not three
+    ([5, 1], LATE, 0, 4, &[1], &[257, 4354, 8452]), // 257, 4355, 12548
+    ([3, 4], TRIANGLE, 0, 0, &[1], &[257, 4354, 8448]),
+    ([3, 4], TRIANGLE, 0, 1, &[1, 1], &[257, 4354, 8448, 257]), // at 1 after one edge, with one label used
+    ([3, 4], TRIANGLE, 0, 1, &[1, 1, 1, 1], &[257, 4354, 8448, 257]),
+    ([3, 4], TRIANGLE, 0, 1, &[1, 1, 1], &[]),  // three edges end at 0
+    ([2, 4], LOOP, 0, 0, &[1, 1], &[256, 256]), // 257, 4352
+    ([2, 4], LOOP, 0, 1, &[1, 2], &[256, 513]), // 257, 4609
+    ([2, 4], LOOP, 1, 1, &[1, 2], &[4352, 513]),
+    ([2, 4], LOOP, 1, 0, &[2, 1], &[4609, 4352]),
+    ([1, 4], &[(0, 1, 0)], 0, 0, &[1, 1, 1, 1], &[256, 256, 256, 256]),
+    ([256, 4], &[(255, 8, 255)], 255, 255, &[8], &[1046783]),
+];
+
 /// Table II as index memory: vertices numbered from 0, rising.
 pub fn table_2_slots() -> Vec<u64> {
     let mut slots: Vec<u64> =
@@ -81,6 +116,7 @@ pub fn run(t: &mut Tester) {
     limits(t);
     table_2(t);
     keyed_twice(t);
+    routes(t);
 }
 
 fn memory(t: &mut Tester, edges: usize, index: usize) -> Memory {
@@ -261,6 +297,33 @@ fn keyed_twice(t: &mut Tester) {
             let reply = t.search(record, &check, &mut memory);
             let expected = if allowed < levels { (SPENT, allowed) } else { (answer, levels) };
             t.expect("a plain check of the pattern as keyed", reply, expected);
+        }
+        memory.work = t.rng.words(4096);
+        let check = Check { start, destination, pattern: pattern.to_vec(), allowed: 0 };
+        let mut walk = t.rng.short_words(4);
+        let reply = t.route(record, &check, &mut memory, &mut walk);
+        t.expect("a route by the pattern as keyed", reply, if answer == YES { (YES, levels) } else { (0, 0) });
+    }
+}
+
+/// Each route with walk memory of every length up to two slots more, all of it dirty.
+fn routes(t: &mut Tester) {
+    for (record, edges, start, destination, pattern, route) in ROUTES {
+        let check = Check { start, destination, pattern: pattern.to_vec(), allowed: 0 };
+        for slots in 0..=route.len() + 2 {
+            let mut memory = Memory { edges: gen::edge_memory(edges, edges.len()), ..memory(t, 0, 0) };
+            let mut walk = t.rng.short_words(slots);
+            let found = walk.clone();
+            let reply = t.route(record, &check, &mut memory, &mut walk);
+            let (expected, written) = match route.len() {
+                0 => ((0, 0), 0),
+                count if slots < count => ((18, 0), 0),
+                count => ((YES, count as u32), count),
+            };
+            t.expect("a route worked out by hand", reply, expected);
+            t.expect("its edges", &walk[..written], &route[..written]);
+            t.expect("the slots behind it, or all if there is none", &walk[written..], &found[written..]);
+            t.expect("work memory zero, also after 18", memory.work.iter().all(|word| *word == 0), true);
         }
     }
 }

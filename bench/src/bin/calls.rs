@@ -6,6 +6,9 @@
 mod folding;
 #[path = "../layouts.rs"]
 mod layouts;
+#[path = "../lent.rs"]
+#[allow(dead_code)]
+mod lent;
 #[path = "../levels.rs"]
 mod levels;
 #[path = "../search.rs"]
@@ -15,70 +18,13 @@ mod search;
 mod timing;
 
 use layouts::{Layout, Random, VERTICES};
+use lent::{draw, rlc_insert, rlc_remove, Lent, YES};
 use timing::{heading, heading_of, millis, print_times};
 
 #[rustfmt::skip]
 extern "C" {
-    fn rlc_insert(record: *mut u32, n: usize, from: u32, label: u32, to: u32, edges: *mut u32, m: usize,
-                  index: *mut u64, slots: usize, work: *mut u64, w: usize) -> u32;
-    fn rlc_remove(record: *mut u32, n: usize, from: u32, label: u32, to: u32, edges: *mut u32, m: usize,
-                  index: *mut u64, slots: usize, work: *mut u64, w: usize) -> u32;
-    fn rlc_query(record: *const u32, n: usize, start: u32, destination: u32, pattern: *const u8, p: usize,
-                 edges: *const u32, m: usize, index: *const u64, slots: usize, work: *mut u64, w: usize) -> u32;
-    fn rlc_search(record: *const u32, n: usize, start: u32, destination: u32, pattern: *const u8, p: usize, limit: u32,
-                  edges: *const u32, m: usize, work: *mut u64, w: usize) -> u64;
     fn rlc_minimum_repeat(pattern: *const u8, p: usize) -> u32;
     fn rlc_minimum_repeat_computed(pattern: *const u8, p: usize) -> u32;
-}
-
-const YES: u64 = 100;
-
-/// A layout's memory, as a caller lends it.
-struct Lent {
-    record: [u32; 2],
-    edges: Vec<u32>,
-    index: Vec<u64>,
-    work: Vec<u64>,
-}
-
-type Change = unsafe extern "C" fn(*mut u32, usize, u32, u32, u32, *mut u32, usize, *mut u64, usize, *mut u64, usize) -> u32;
-
-impl Lent {
-    fn new(longest: u32, edges: &[u32], slots: usize) -> Lent {
-        let index = vec![u64::MAX; slots];
-        Lent { record: [VERTICES, longest], edges: edges.to_vec(), index, work: vec![u64::MAX; 4096 + slots] }
-    }
-
-    fn change(&mut self, call: Change, x: u32) -> u32 {
-        let (m, slots, w) = (self.edges.len(), self.index.len(), self.work.len());
-        let (edges, index, work) = (self.edges.as_mut_ptr(), self.index.as_mut_ptr(), self.work.as_mut_ptr());
-        unsafe { call(self.record.as_mut_ptr(), 2, x / 4096, x / 256 % 16, x % 256, edges, m, index, slots, work, w) }
-    }
-
-    /// The query with the least work memory.
-    fn query(&mut self, s: u32, t: u32, pattern: &[u8]) -> u32 {
-        self.query_with(s, t, pattern, self.edges.len())
-    }
-
-    /// The query with so many edge slots.
-    fn query_with(&mut self, s: u32, t: u32, pattern: &[u8], m: usize) -> u32 {
-        let (record, p, n) = (self.record.as_ptr(), pattern.as_ptr(), pattern.len());
-        let (edges, index, slots, work) = (self.edges.as_ptr(), self.index.as_ptr(), self.index.len(), self.work.as_mut_ptr());
-        unsafe { rlc_query(record, 2, s, t, p, n, edges, m, index, slots, work, 4096) }
-    }
-
-    /// What a query by a pattern that repeats itself costs up to check 12 and no further: with 1,025 edge slots, which are not looked at, it is
-    /// refused by 3.
-    fn check(&mut self, s: u32, t: u32, pattern: &[u8]) -> u32 {
-        self.query_with(s, t, pattern, 1025)
-    }
-
-    /// The plain check with the least work memory.
-    fn search(&mut self, s: u32, t: u32, pattern: &[u8]) -> u64 {
-        let (record, p) = (self.record.as_ptr(), pattern.len());
-        let (edges, m, work) = (self.edges.as_ptr(), self.edges.len(), self.work.as_mut_ptr());
-        unsafe { rlc_search(record, 2, s, t, pattern.as_ptr(), p, 1025, edges, m, work, 4096) }
-    }
 }
 
 /// One edge is removed and laid again; the lay is timed, against the pruned search on all edges.
@@ -99,14 +45,6 @@ fn time_lay(name: &str, longest: u32, edges: &[u32], repeats: usize) -> Lent {
     }
     print_times(name, proved, rust, format!("{} edges, {} entries", edges.len(), expected.len()));
     lent
-}
-
-/// Ends and patterns at random, patterns from the index itself.
-fn draw(random: &mut Random, lent: &Lent) -> (u32, u32, Vec<u8>) {
-    let entries = lent.index.iter().take_while(|&&x| x != 0).count() as u32;
-    let code = lent.index[random.below(entries) as usize] & 65535;
-    let pattern = (0..4).rev().map(|i| (code >> (4 * i) & 15) as u8).filter(|&label| label > 0).collect();
-    (random.below(VERTICES), random.below(VERTICES), pattern)
 }
 
 /// Plain checks in five turns: the mean of each turn.

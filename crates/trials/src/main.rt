@@ -1,7 +1,8 @@
-// The unstarred trial runs of document 01 and document 02's of a pattern keyed twice, through the public calls: a line for each, with 0 if it is
-// accepted or for a no, 100 for a yes, or the number of the refusal.
+// The unstarred trial runs of document 01 and document 02's of a pattern keyed twice and of routes, through the public calls: a line for each, with
+// 0 if it is accepted or for a no, 100 for a yes, or the number of the refusal; of a route the number of its legs and a line for each leg.
 use model::Answer;
 use model::QueryReply;
+use model::RouteReply;
 use store::Header;
 
 // "Layout A is the card above."
@@ -85,6 +86,24 @@ fn ask_one_leg(pattern: &[u8]) -> u32 {
     reply_number(reply)
 }
 
+// A route on layout A: the number of its legs, or of the refusal.
+fn light_a(start: u32, destination: u32, pattern: &[u8], walk: &mut [u32]) -> u32 {
+    let mut edges = [0u32; 3];
+    let mut index = [0u64; 5];
+    let mut work = [0u64; 4096];
+    read_a(&mut edges, &mut index);
+    let header = Header {
+        vertices: 3,
+        longest: 2,
+    };
+    let reply = store::route(header, start, destination, pattern, &edges, walk, &mut work);
+    match reply {
+        RouteReply::Yes(legs) => legs,
+        RouteReply::No => 0,
+        RouteReply::Refused(refusal) => store::refusal_number(refusal),
+    }
+}
+
 fn lay_in_a(from: u32, label: u32, to: u32) -> u32 {
     let mut edges = [0u32; 4];
     let mut index = [0u64; 8];
@@ -115,4 +134,26 @@ fn main() {
     say(b"laying 0-1-1 in A: ", lay_in_a(0, 1, 1));
     say(b"leg 0-1-1, 0 to 1 by 1 1: ", ask_one_leg(b"\x01\x01"));
     say(b"leg 0-1-1, 0 to 1 by 1: ", ask_one_leg(b"\x01"));
+    let mut walk = [0u32; 2];
+    say(
+        b"route in A, 0 to 0 by 1 2: ",
+        light_a(0, 0, b"\x01\x02", &mut walk),
+    );
+    say(b"  leg ", walk[0]);
+    say(b"  leg ", walk[1]);
+    say(
+        b"route in A, 0 to 2 by 1: ",
+        light_a(0, 2, b"\x01", &mut walk),
+    );
+    say(b"  leg ", walk[0]);
+    say(b"  leg ", walk[1]);
+    say(
+        b"route in A, 2 to 0 by 1: ",
+        light_a(2, 0, b"\x01", &mut walk),
+    );
+    let mut short = [0u32; 1];
+    say(
+        b"route in A, 0 to 0 by 1 2, one slot: ",
+        light_a(0, 0, b"\x01\x02", &mut short),
+    );
 }
