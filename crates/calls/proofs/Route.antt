@@ -6,7 +6,7 @@ use Prim.Native.Nat.{ℕ}
 use lib.Dec.{leb}
 use lib.ListN.{length}
 use Rattle.model.specs.Lists.{zeroed}
-use Rattle.model.specs.Routes.{Routed, Yes, No, Refused}
+use Rattle.model.specs.Routes.{Routed, Yes, Refused}
 use Rattle.calls.specs.Call.{Memory, cleared, Outcome}
 use Rattle.calls.specs.Route.{lit, lighting}
 

@@ -1,11 +1,11 @@
 -- Demand 1 holds.
-use mathlib.Core.Path.{_≡_, refl, sym, ap, _∙_}
+use mathlib.Core.Path.{_≡_, refl, sym, ap}
 use mathlib.Core.Logic.{inl, inr, ⊎-elim}
 use mathlib.Core.Bool.{Bool, true, false, not, _&&_, _||_}
 use mathlib.Core.List.{List, [], _∷_, _++_}
 use Prim.Native.Nat.{ℕ, zero, suc, _≤_}
 use native.Mathlib.Omega.{arith}
-use lib.ListN.{length, drop, take}
+use lib.ListN.{length, drop}
 use lib.Seq.{take-append-seam, drop-append-seam}
 use lib.Dec.{T, eqb, leb}
 use Rattle.model.specs.Lists.{zeroed}
@@ -129,7 +129,7 @@ yesNo (RoutedYes n) = 0
 yesNo RoutedNo = 1
 yesNo (RoutedRefused n) = 2
 
-abbrev edgesIn : Routed → ℕ
+abbrev pub edgesIn : Routed → ℕ
 edgesIn (RoutedYes n) = n
 edgesIn RoutedNo = 0
 edgesIn (RoutedRefused n) = 0

@@ -1,15 +1,15 @@
 -- The definitions that compute mean what document 01 says.
-use mathlib.Core.Path.{_≡_, refl, sym, _∙_}
+use mathlib.Core.Path.{_≡_, sym, _∙_}
 use mathlib.Core.Logic.{_↔_}
 use mathlib.Core.Bool.{Bool, true}
-use mathlib.Core.List.{List, [], _∷_}
+use mathlib.Core.List.{List}
 use Prim.Native.Nat.{ℕ}
 use native.Mathlib.Omega.{arith}
 use Rattle.model.specs.Limits.{mostLongest}
 use Rattle.model.specs.Edges.{Graph, Bounds, standing}
 use Rattle.model.specs.Patterns.{times, Keyed, MinRepeat}
 use Rattle.model.specs.Computed.Edges.{Small}
-use Rattle.model.specs.Computed.Patterns.{keyed?, minRepeat, timesWritten}
+use Rattle.model.specs.Computed.Patterns.{minRepeat, timesWritten}
 use Rattle.model.specs.Computed.Order.{counted}
 use Rattle.model.specs.Computed.Entries.{determined}
 use Rattle.model.proofs.Tests.{Tests, test-true, test-yields}
@@ -26,7 +26,7 @@ use Rattle.calls.specs.Call.{Header, graphOf, Memory}
 use Rattle.calls.specs.Search.{searchCall}
 use Rattle.demands.specs.Demand1.{searchNumber}
 use Rattle.demands.proofs.Asking.{unrefused, search-right}
-use Rattle.demands.proofs.Routing.{search-allowed, search-number, route-told}
+use Rattle.demands.proofs.Routing.{search-allowed, search-number, route-told, route-levels}
 use Rattle.demands.specs.Meaning.{Replies, GraphMeaning, Meaning}
 
 -- a test is true exactly if its statement holds
@@ -79,5 +79,6 @@ meaning =
       level-next = λ g l s i z. level-iff g l s i z;
       searches = searches;
       routes = λ h s t l limit m. route-told h s t l m limit;
+      lengths = λ h s t l limit m. route-levels h s t l m limit;
       queries = λ h s t l m more e. search-right h s t l m (unrefused h s t l m e) more;
     }

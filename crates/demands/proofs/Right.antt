@@ -22,6 +22,7 @@ use Rattle.model.specs.Computed.Query.{indexMemory?}
 use Rattle.model.proofs.Tests.{Tests, test-true, test-false, test-yields, test-not, test-mem, test-le, test-lt, test-dec}
 use Rattle.model.proofs.Edges.{edge-named}
 use Rattle.model.proofs.Patterns.{test-keyed, test-once}
+use Rattle.model.proofs.Routes.{candidate-runs}
 use Rattle.model.proofs.Insertion.{length-insert, member-insert, rising-insert, length-remove, rising-remove, member-left}
 use Rattle.model.proofs.Memory.{edge-memory, edge-least, standing-filled, standing-zeroed, filled-memory}
 use Rattle.model.proofs.Zeros.{Ordered, filled-within}
@@ -39,7 +40,7 @@ use Rattle.calls.proofs.Passing.{passing}
 use Rattle.calls.proofs.Query.{within}
 use Rattle.demands.specs.Demand2.{Judged, Lit, Right, RightAfter}
 use Rattle.demands.proofs.Asking.{judged, judged-runs, runs-judged, number-refuses, once-is, search-right}
-use Rattle.demands.proofs.Routing.{lit-runs, runs-lit, route-lit}
+use Rattle.demands.proofs.Routing.{lit-route, runs-lit, route-lit}
 use Rattle.demands.proofs.Index.{whole-passes, answer-right}
 use Rattle.demands.proofs.Openings.{no-entries, blank-filled}
 use Rattle.demands.proofs.Reading.{read-said}
@@ -154,7 +155,7 @@ module _ (g : Graph) (bounds : Bounds (g .vertices) (g .longest)) (slots room : 
 
     shown-if : mostLongest * mostVertices ≤ length walk
         → (queryCall h s t l (lent edges index work) .reply ≡ Yes) ↔ ((n : ℕ) × (routeCall h s t l (lentOut edges work walk) .reply ≡ RoutedYes n))
-    shown-if long = (λ e. runs-lit bounds k hs ht long shown (judged-runs asked e), λ (n, e). runs-judged asked (lit-runs bounds k hs ht shown e))
+    shown-if long = (λ e. runs-lit bounds k hs ht long shown (judged-runs asked e), λ (n, e). let (es, r, _) = lit-route shown e in runs-judged asked (candidate-runs (r .runs)))
 
   pub right : Right h edges index g
   right =

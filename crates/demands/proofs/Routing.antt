@@ -6,18 +6,20 @@ use Prim.Native.Nat.{ℕ, zero, suc, _*_, _≤_, _<_}
 use native.Mathlib.Omega.{arith}
 use lib.Dec.{leb}
 use lib.ListN.{length}
-use Rattle.model.specs.Limits.{mostVertices, mostLongest, leastWork}
+use Rattle.model.specs.Limits.{mostVertices, mostLongest, leastWork, enoughLevels}
 use Rattle.model.specs.Edges.{Graph, Bounds, standing}
 use Rattle.model.specs.Patterns.{Keyed}
 use Rattle.model.specs.Walks.{Runs}
-use Rattle.model.specs.Routes.{Routed, Yes, No, Refused}
+use Rattle.model.specs.Routes.{Route, Routed, Yes, Refused}
+use Rattle.model.specs.States.{Reply, Yes as SearchYes}
 use Rattle.model.specs.Computed.Edges.{edgeMemory?}
 use Rattle.model.specs.Computed.Patterns.{keyed?}
 use Rattle.model.specs.Computed.Routes.{routeOf}
+use Rattle.model.specs.Levels.{Decides, runs, runs-not}
 use Rattle.model.proofs.Tests.{test-yields, test-fails, test-le, both-ways}
 use Rattle.model.proofs.Memory.{edge-memory}
-use Rattle.model.proofs.Search.{told}
-use Rattle.model.proofs.Routes.{candidate-long, candidate-runs, route-short}
+use Rattle.model.proofs.Search.{told, decides}
+use Rattle.model.proofs.Routes.{candidate-long, candidate-runs, reply-route, route-short}
 use Rattle.model.proofs.RouteSearch.{RoutedBy, lit, dark, route-of}
 use Rattle.calls.specs.Checks.{vertices?, longest?, ends?, Check}
 use Rattle.calls.specs.Call.{Header, graphOf, Memory}
@@ -26,7 +28,7 @@ use Rattle.calls.specs.Route.{lighting, routeCall}
 use Rattle.calls.proofs.Passing.{passing}
 use Rattle.calls.proofs.Query.{Allowed, allowed}
 use Rattle.demands.specs.Demand1.{searchNumber}
-use Rattle.demands.proofs.Demand1.{yesNo, told-none}
+use Rattle.demands.proofs.Demand1.{yesNo, edgesIn, told-none}
 use Rattle.demands.specs.Demand2.{Lit, lit as is-lit, short, none}
 
 -- a route's edges, or none, as they are lit
@@ -41,18 +43,24 @@ lit-by (x ∷ es) full (lit r) m =
     (λ e. rw e (is-lit (x ∷ es) r (test-yields fits e)))
     (λ e. rw e (short (x ∷ es) r (let z = test-fails fits e in omega arith)))
 
--- a route is given exactly if a walk runs the pattern, where walk memory is long enough for any
-module _ {g : Graph} {l : List ℕ} {s t : ℕ} (bounds : Bounds (g .vertices) (g .longest)) (keyed : Keyed (g .longest) l) (hs : s < g .vertices) (ht : t < g .vertices) where
-  pub lit-runs : {walk after : List ℕ} {r : Routed} {n : ℕ} → Lit g l s t walk r after → r ≡ Yes n → Runs g l s t
-  lit-runs (is-lit es r h) e = candidate-runs (r .runs)
-  lit-runs (short es r h) e = candidate-runs (r .runs)
-  lit-runs (none d) e = absurd (let z : 1 ≡ 0 = ap yesNo e in omega arith)
+-- the edges of one that is given
+pub lit-route : {g : Graph} {l : List ℕ} {s t : ℕ} {walk after : List ℕ} {r : Routed} {n : ℕ} → Lit g l s t walk r after → r ≡ Yes n
+    → (es : List ℕ) × Route g l s t es × (length es ≡ n)
+lit-route (is-lit es r h) e = (es, r, ap edgesIn e)
+lit-route (short es r h) e = absurd (let z : 2 ≡ 0 = ap yesNo e in omega arith)
+lit-route (none d) e = absurd (let z : 1 ≡ 0 = ap yesNo e in omega arith)
 
-  pub runs-lit : {walk after : List ℕ} {r : Routed} → mostLongest * mostVertices ≤ length walk → Lit g l s t walk r after → Runs g l s t → (n : ℕ) × (r ≡ Yes n)
-  runs-lit long (is-lit es r h) p = (length es, refl)
-  runs-lit long (short es r h) p =
-      absurd (let z = route-short g l s t (bounds .vertices-most) (keyed .long) hs ht r in omega (arith, z, keyed .short, bounds .longest-most))
-  runs-lit long (none d) p = absurd (d p)
+-- where walk memory is long enough for any route, one is given if a walk runs the pattern
+pub runs-lit : {g : Graph} {l : List ℕ} {s t : ℕ} → Bounds (g .vertices) (g .longest) → Keyed (g .longest) l → s < g .vertices → t < g .vertices
+    → {walk after : List ℕ} {r : Routed} → mostLongest * mostVertices ≤ length walk → Lit g l s t walk r after → Runs g l s t → (n : ℕ) × (r ≡ Yes n)
+runs-lit b k hs ht long (is-lit es r h) p = (length es, refl)
+runs-lit {g} {l} {s} {t} b k hs ht long (short es r h) p =
+    absurd (let z = route-short g l s t (b .vertices-most) (k .long) hs ht r in omega (arith, z, k .short, b .longest-most))
+runs-lit b k hs ht long (none d) p = absurd (d p)
+
+decides-yes : {g : Graph} {l : List ℕ} {s t : ℕ} {r : Reply} → Decides g l s t r → Runs g l s t → (c : ℕ) × (r ≡ SearchYes c)
+decides-yes (runs c p) q = (c, refl)
+decides-yes (runs-not c d) q = absurd (d q)
 
 module _ (h : Header) (s t : ℕ) (l : List ℕ) (m : Memory) where
   abbrev graph : Graph
@@ -102,3 +110,18 @@ module _ (h : Header) (s t : ℕ) (l : List ℕ) (m : Memory) where
       go : (n : ℕ) → searchRefusal h s t l m ≡ n → 1 ≤ searchRefusal h s t l m → routeCall h s t l m .reply ≡ Refused (searchRefusal h s t l m)
       go zero e k = absurd (omega (arith, e, k))
       go (suc n) e k = route-refuses e ∙ ap Refused (sym e)
+
+  -- a route has as many edges as the plain check's yes has levels
+  pub route-levels : (limit n : ℕ) → enoughLevels ≤ limit → routeCall h s t l m .reply ≡ Yes n → searchCall h s t l limit m .reply ≡ SearchYes n
+  unfolding searchCall
+  route-levels limit n enough e = go (searchRefusal h s t l m) refl
+    where
+      go : (k : ℕ) → searchRefusal h s t l m ≡ k → searchCall h s t l limit m .reply ≡ SearchYes n
+      go zero q =
+          let (a, _) = search-allowed q in
+          let (es, r, long) = lit-route (route-lit q) e in
+          let d = decides graph l s t (a .bounds .vertices-most) (a .keyed .long) (a .start-vertex) (a .destination-vertex) limit enough (omega (arith, a .keyed .short, a .bounds .longest-most)) in
+          let (c, y) = decides-yes d (candidate-runs (r .runs)) in
+          let same = reply-route graph l s t (a .bounds .vertices-most) (a .keyed .long) (a .start-vertex) (a .destination-vertex) limit y r in
+          rw q (y ∙ ap SearchYes (sym same ∙ long))
+      go (suc k) q = absurd (let z : 2 ≡ 0 = ap yesNo (sym (route-refuses q) ∙ e) in omega arith)

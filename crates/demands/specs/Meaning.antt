@@ -14,8 +14,8 @@ use Rattle.model.specs.Walks.{Spells, Runs}
 use Rattle.model.specs.Order.{weight, Before, Names}
 use Rattle.model.specs.Entries.{IsEntry}
 use Rattle.model.specs.Query.{Coded, OfEntry, Answers}
-use Rattle.model.specs.Routes.{Refused}
-use Rattle.model.specs.States.{state, Reply}
+use Rattle.model.specs.Routes.{Yes as RoutedYes, Refused}
+use Rattle.model.specs.States.{Yes, state, Reply}
 use Rattle.model.specs.Computed.Edges.{edgeMemory?}
 use Rattle.model.specs.Computed.Patterns.{keyed?, minRepeat, timesWritten}
 use Rattle.model.specs.Computed.Order.{counted}
@@ -83,3 +83,6 @@ pub record Meaning : Type 0 where
       let c = routeCall h start destination pattern m in
       (1 ≤ n → c .reply ≡ Refused n)
       × (n ≡ 0 → Lit (graphOf h (standing (m .edges))) pattern start destination (m .output) (c .reply) (c .memory .output))
+  -- it has as many edges as the plain check's yes has levels
+  pub lengths : (h : Header) (start destination : ℕ) (pattern : List ℕ) (limit : ℕ) (m : Memory) (n : ℕ) → enoughLevels ≤ limit
+      → routeCall h start destination pattern m .reply ≡ RoutedYes n → searchCall h start destination pattern limit m .reply ≡ Yes n

@@ -25,7 +25,7 @@ pub mod IndexMemory
 pub mod Codes
 pub mod Memories
 pub mod Before
-pub mod Trails
+pub mod WalksBack
 pub mod Queue
 pub mod Routes
 pub mod RouteSearch

@@ -1,29 +1,29 @@
 -- The search's laws: its queue is of first walks, in their order; it ends with every state that is reached; and so its pick is the route.
 use mathlib.Core.Path.{_≡_, refl, sym, ap, _∙_, subst}
 use mathlib.Core.Logic.{_⊎_, inl, inr, ⊎-elim, _↔_}
-use mathlib.Core.Bool.{Bool, true, false, not, _&&_, cond}
+use mathlib.Core.Bool.{not, _&&_}
 use mathlib.Core.List.{List, [], _∷_, _++_, reverse, append-nil, append-assoc, List·Memᴰ, List·Memᴰ·head, List·Memᴰ·tail, List·Memᴰ·cases-cons, List·Memᴰ·not-nil, List·Memᴰ·append-cases, List·Memᴰ·eq-of-singleton, Memᴰ·append-left, Memᴰ·append-right}
-use Prim.Native.Nat.{ℕ, zero, suc, _+_, _*_, _/_, _%_, _≤_, _<_}
-use native.Mathlib.Nat.{eq-or-lt-of-le, le-refl}
+use Prim.Native.Nat.{ℕ, zero, suc, _+_, _≤_, _<_}
+use native.Mathlib.Nat.{eq-or-lt-of-le}
 use native.Mathlib.Decide.{decLt, ℕ-discrete}
 use native.Mathlib.Omega.{arith}
-use lib.Dec.{T, eqb, ltb}
+use lib.Dec.{eqb}
 use lib.ListN.{length, getD, length-append, length-reverse}
-use Rattle.model.specs.Lists.{_∈_, keep, mem?, empty?, Sorted, none, next, Rising}
+use Rattle.model.specs.Lists.{_∈_, keep, empty?, Sorted, none, next, Rising}
 use Rattle.model.specs.Limits.{mostVertices}
 use Rattle.model.specs.Edges.{Graph, edgeNumber, toOf}
 use Rattle.model.specs.Walks.{Runs}
 use Rattle.model.specs.States.{state, vertexOf, usedOf}
 use Rattle.model.specs.Computed.Levels.{states}
-use Rattle.model.proofs.Tests.{Tests, test-map, test-and, test-not, test-eq, test-lt, test-mem, test-T, test-dec, by-test}
+use Rattle.model.proofs.Tests.{Tests, test-and, test-not, test-eq, test-lt, test-mem, by-test}
 use Rattle.model.proofs.Lists.{keep-in, keep-out, length-keep, sorted-keep, sorted-append}
 use Rattle.model.proofs.Levels.{states-iff}
-use Rattle.model.specs.Routes.{Candidate, Route}
-use Rattle.model.specs.Computed.Routes.{ahead, StepBy, follows?, Node, nodeBy, Frontier, visit, visitAll, search, startNode, pick, routeOf}
-use Rattle.model.specs.Queue.{_≺_, early, last, _≼_, same, before, WalkBack, start, on, _∈ⁿ_, Queued, Searched, Unreached, Earlier, Mid, Going}
-use Rattle.model.proofs.Before.{lt-irrefl, lt-trans, le-lt-trans, longer, lt-cons}
-use Rattle.model.proofs.Trails.{step-state, candidate-trail}
-use Rattle.model.proofs.Queue.{met-later, covered, advance, skip-to, step-old, step-new}
+use Rattle.model.specs.Routes.{Route}
+use Rattle.model.specs.Computed.Routes.{ahead, follows?, Node, nodeBy, Frontier, visit, visitAll, search, startNode, pick, routeOf}
+use Rattle.model.specs.Queue.{StepBy, _≺_, early, last, start, on, _∈ⁿ_, Queued, Searched, Mid, Going}
+use Rattle.model.proofs.Before.{lt-irrefl, lt-trans, longer, lt-cons}
+use Rattle.model.proofs.WalksBack.{step-state, candidate-back}
+use Rattle.model.proofs.Queue.{met-later, covered, skip-to, step-old, step-new}
 use Rattle.model.proofs.Routes.{route-unique, candidate-runs, runs-candidate, candidate-long, met-route}
 
 sorted-across : {A : Type 0} {R : A → A → Type 0} (l : List A) {m : List A} → Sorted R (l ++ m) → {x z : A} → List·Memᴰ x l → List·Memᴰ z m → R x z
@@ -164,9 +164,7 @@ module _ (g : Graph) (l : List ℕ) (s : ℕ) (small : g .vertices ≤ mostVerti
   going-mid {done} {p} {todo} h = record {
     among = Memᴰ·append-right done (List·Memᴰ·head refl);
     searched = record {
-      rooted = h .rooted;
-      walks = h .walks;
-      least = h .least;
+      firsts = h .firsts;
       closed = λ n m x z k b. ⊎-elim (λ i. h .closed n i x z k) (λ i. absurd (later n i (⊎-elim (λ j. j) (λ j. absurd (omega (arith, j .1))) (lt-cons b)))) (List·Memᴰ·append-cases done m);
     };
     sorted = h .sorted;
@@ -180,9 +178,7 @@ module _ (g : Graph) (l : List ℕ) (s : ℕ) (small : g .vertices ≤ mostVerti
   pub mid-going : (done : List Node) {p : Node} {todo : List Node} {fresh : List ℕ} {b : ℕ} → Mid g l s (done ++ p ∷ todo) p fresh b → ((x z : ℕ) → b ≤ x → StepBy g l (p .at) x z → ⊥) → Going g l s (done ++ p ∷ []) todo (done ++ p ∷ todo) fresh
   mid-going done {p} {todo} {fresh} {b} h f = record {
     parts = sym (append-assoc done (p ∷ []) todo);
-    rooted = h .searched .rooted;
-    walks = h .searched .walks;
-    least = h .searched .least;
+    firsts = h .searched .firsts;
     closed = λ n m x z k. ⊎-elim
         (λ i. h .searched .closed n (Memᴰ·append-left (p ∷ todo) i) x z k (early (sorted-across done (h .sorted) i (List·Memᴰ·head refl))))
         (λ i. let e : n ≡ p = List·Memᴰ·eq-of-singleton i in here x z (rw e at k))
@@ -203,7 +199,7 @@ module _ (g : Graph) (l : List ℕ) (s : ℕ) (small : g .vertices ≤ mostVerti
   going-end {done} {nodes} {fresh} h = go (h .parts ∙ append-nil done)
     where
       go : nodes ≡ done → WholeSearch done
-      go e = record { searched = λ c. rw (← e) (record { rooted = h .rooted; walks = h .walks; least = h .least; closed = λ n m x z k b. h .closed n (rw e at m) x z k }) }
+      go e = record { searched = λ c. rw (← e) (record { firsts = h .firsts; closed = λ n m x z k b. h .closed n (rw e at m) x z k }) }
 
   searches : (f : ℕ) (done todo : List Node) (fresh : List ℕ) → Going g l s done todo (done ++ todo) fresh → length todo + length fresh ≤ f → WholeSearch (search g l f done todo fresh)
   unfolding search
@@ -221,9 +217,11 @@ module _ (g : Graph) (l : List ℕ) (s : ℕ) (small : g .vertices ≤ mostVerti
   pub starts : Going g l s [] (startNode s ∷ []) (startNode s ∷ []) (states g l)
   starts = record {
     parts = refl;
-    rooted = List·Memᴰ·head refl;
-    walks = λ n m. let e : n ≡ startNode s = List·Memᴰ·eq-of-singleton m in rw e start;
-    least = λ n m k. let e : n ≡ startNode s = List·Memᴰ·eq-of-singleton m in absurd (omega (arith, ap (λ (n : Node). length (n .back)) e));
+    firsts = record {
+      rooted = List·Memᴰ·head refl;
+      walks = λ n m. let e : n ≡ startNode s = List·Memᴰ·eq-of-singleton m in rw e start;
+      least = λ n m k. let e : n ≡ startNode s = List·Memᴰ·eq-of-singleton m in absurd (omega (arith, ap (λ (n : Node). length (n .back)) e));
+    };
     closed = λ n m. absurd (List·Memᴰ·not-nil m);
     sorted = next (λ n m. absurd (List·Memᴰ·not-nil m)) none;
     near = λ n m i j. let e : n ≡ startNode s = List·Memᴰ·eq-of-singleton i in rw e _≺_.none;
@@ -269,7 +267,7 @@ module _ (g : Graph) (l : List ℕ) (s t : ℕ) (small : g .vertices ≤ mostVer
   pub whole-met : {nodes : List Node} → WholeSearch g l s small full rises nodes → Runs g l s t → Queued nodes (state t 0)
   whole-met h r =
       let (es, c) = runs-candidate r in
-      covered g l s (h .searched (0 ∷ reverse es)) (candidate-trail g l s small full c) (omega (arith, length-reverse es, candidate-long full c)) (longer 0 (reverse es))
+      covered g l s (h .searched (0 ∷ reverse es)) (candidate-back g l s small full c) (omega (arith, length-reverse es, candidate-long full c)) (longer 0 (reverse es))
 
   pub route-of : RoutedBy g l s t (routeOf g l s t)
   unfolding routeOf
@@ -282,7 +280,7 @@ module _ (g : Graph) (l : List ℕ) (s t : ℕ) (small : g .vertices ≤ mostVer
       whole = searches g l s small full rises (suc (length (states g l))) [] (startNode s ∷ []) (states g l) (starts g l s small full rises) (omega arith)
 
       go : {es : List ℕ} → PicksNode g l s small full rises (state t 0) nodes es → RoutedBy g l s t es
-      go (met m) = lit (met-route g l s t small full hs ht (whole .searched []) m)
+      go (met m) = lit (met-route g l s t small full hs ht (whole .searched [] .firsts) m)
       go (unmet f) = dark (λ r. f (whole-met whole r))
 
   -- there is a route where a walk runs the pattern, and there alone

@@ -1,18 +1,17 @@
 -- Laws of routes: there is at most one, it runs the pattern, its length is the first level that has (t, 0), and the queue's node is it.
-use mathlib.Core.Path.{_≡_, refl, sym, ap, ap₂, _∙_, subst}
-use mathlib.Core.Logic.{_⊎_, inl, inr, ⊎-elim, _↔_}
-use mathlib.Core.List.{List, [], _∷_, _++_, reverse, reverse-reverse, List·Memᴰ·not-nil}
+use mathlib.Core.Path.{_≡_, refl, sym, ap, _∙_, subst}
+use mathlib.Core.Logic.{_⊎_, inl, inr}
+use mathlib.Core.List.{List, [], _∷_, reverse, reverse-reverse, List·Memᴰ·not-nil}
 use Prim.Native.Nat.{ℕ, zero, suc, _+_, _*_, _≤_, _<_}
-use native.Mathlib.Nat.{eq-or-lt-of-le, le-antisymm, le-of-eq}
+use native.Mathlib.Nat.{eq-or-lt-of-le, le-antisymm}
 use native.Mathlib.Decide.{decLt}
 use native.Mathlib.Omega.{arith}
-use lib.ListN.{length, length-reverse, length-append}
+use lib.ListN.{length, length-reverse}
 use Rattle.model.specs.Lists.{_∈_}
 use Rattle.model.specs.Limits.{mostVertices}
 use Rattle.model.specs.Edges.{Graph}
-use Rattle.model.specs.Patterns.{times}
 use Rattle.model.specs.Walks.{Runs}
-use Rattle.model.specs.States.{state, Reply, Yes}
+use Rattle.model.specs.States.{state, Yes}
 use Rattle.model.specs.Computed.Levels.{stage, level, levelReply}
 use Rattle.model.specs.Levels.{Told, found}
 use Rattle.model.proofs.Patterns.{length-times}
@@ -21,9 +20,9 @@ use Rattle.model.proofs.Levels.{Met, level-iff, level-size, fresh-size}
 use Rattle.model.proofs.Search.{told}
 use Rattle.model.specs.Routes.{Walked, here, edge, Candidate, Route}
 use Rattle.model.specs.Computed.Routes.{Node}
-use Rattle.model.specs.Queue.{_≼_, WalkBack, start, on, Queued, Searched}
+use Rattle.model.specs.Queue.{_≼_, WalkBack, start, on, Queued, FirstWalks}
 use Rattle.model.proofs.Before.{le-length, le-sub, sub-antisymm}
-use Rattle.model.proofs.Trails.{level-trail, trail-met, walked-spells, spells-walked, candidate-trail, trail-candidate}
+use Rattle.model.proofs.WalksBack.{level-back, back-met, walked-spells, spells-walked, candidate-back, back-candidate}
 
 -- there is one route at most
 pub route-unique : {g : Graph} {l : List ℕ} {s t : ℕ} {es fs : List ℕ} → Route g l s t es → Route g l s t fs → es ≡ fs
@@ -50,9 +49,9 @@ module _ (g : Graph) (l : List ℕ) (s t : ℕ) (small : g .vertices ≤ mostVer
   long {fs} c = omega (arith, length-reverse fs, candidate-long full c)
 
   -- a first walk to (t, 0) that is queued is the route
-  pub met-route : {nodes : List Node} {c : List ℕ} → Searched g l s nodes c → (m : Queued nodes (state t 0)) → Route g l s t (reverse (m .node .back))
+  pub met-route : {nodes : List Node} → FirstWalks g l s nodes → (m : Queued nodes (state t 0)) → Route g l s t (reverse (m .node .back))
   met-route {nodes} h m = record {
-    runs = trail-candidate g l s small full hs ht (m .long) (subst (λ (z : ℕ). WalkBack g l s z (m .node .back)) (m .is) (h .walks (m .node) (m .among)));
+    runs = back-candidate g l s small full hs ht (m .long) (subst (λ (z : ℕ). WalkBack g l s z (m .node .back)) (m .is) (h .walks (m .node) (m .among)));
     fewest = λ fs c. omega (arith, le-length (least fs c), length-reverse fs, length-reverse (m .node .back));
     first = λ fs c e.
         let k : length (m .node .back) ≡ length (reverse fs) = omega (arith, length-reverse fs, length-reverse (m .node .back)) in
@@ -60,7 +59,7 @@ module _ (g : Graph) (l : List ℕ) (s t : ℕ) (small : g .vertices ≤ mostVer
   }
     where
       least : (fs : List ℕ) → Candidate g l s t fs → (m .node .back) ≼ (reverse fs)
-      least fs c = h .least (m .node) (m .among) (m .long) (reverse fs) (subst (λ (z : ℕ). WalkBack g l s z (reverse fs)) (sym (m .is)) (candidate-trail g l s small full c)) (long c)
+      least fs c = h .least (m .node) (m .among) (m .long) (reverse fs) (subst (λ (z : ℕ). WalkBack g l s z (reverse fs)) (sym (m .is)) (candidate-back g l s small full c)) (long c)
 
   -- ---- levels
 
@@ -72,19 +71,19 @@ module _ (g : Graph) (l : List ℕ) (s t : ℕ) (small : g .vertices ≤ mostVer
 
   met-by : {z : ℕ} {q : List ℕ} → WalkBack g l s z q → 1 ≤ length q → Met g l s (length q) z
   met-by start k = absurd (omega arith)
-  met-by (on p h) k = trail-met g l s small full p h
+  met-by (on p h) k = back-met g l s small full p h
 
   -- a level that has (t, 0) is as long as some candidate
   level-candidate : (j : ℕ) → 1 ≤ j → state t 0 ∈ level g l s j → (fs : List ℕ) × Candidate g l s t fs × (length fs ≡ j)
   level-candidate j h m =
-      let (p, tr, e) = level-trail g l s j (state t 0) m in
-      (reverse p, trail-candidate g l s small full hs ht (omega arith) tr, length-reverse p ∙ e)
+      let (p, tr, e) = level-back g l s j (state t 0) m in
+      (reverse p, back-candidate g l s small full hs ht (omega arith) tr, length-reverse p ∙ e)
 
   pub route-level : {es : List ℕ} → Route g l s t es → FirstLevel (length es)
   route-level {es} r = record { positive = candidate-long full (r .runs); has = go (eq-or-lt-of-le (omega (arith, met .last, length-reverse es))); none = early }
     where
       met : Met g l s (length (reverse es)) (state t 0)
-      met = met-by (candidate-trail g l s small full (r .runs)) (long (r .runs))
+      met = met-by (candidate-back g l s small full (r .runs)) (long (r .runs))
 
       early : (j : ℕ) → 1 ≤ j → j < length es → ¬ (state t 0 ∈ level g l s j)
       early j h k m = let (fs, c, e) = level-candidate j h m in omega (arith, r .fewest fs c)

@@ -13,7 +13,7 @@ use Rattle.model.specs.declared.RouteReply.{RouteReply}
 use Rattle.model.proofs.RouteSearch.{route-as}
 use Rattle.calls.specs.Call.{Header, graphOf, Memory, lent, Meets}
 use Rattle.calls.specs.Search.{searchRefusal}
-use Rattle.calls.specs.Route.{lighting, routeCall}
+use Rattle.calls.specs.Route.{routeCall}
 use Rattle.calls.proofs.Calls.{refused-meets, accepted-is}
 use Rattle.calls.proofs.Route.{lighting-leaves}
 use Rattle.checks.proofs.LayoutChecks.{layout-memory}

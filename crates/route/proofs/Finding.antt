@@ -1,7 +1,7 @@
 -- The search from its start to its end: work memory as it is set up, a queued state's position in the pattern, and what is found.
 use mathlib.Core.Path.{_≡_, refl, sym, ap, _∙_, subst}
 use mathlib.Core.List.{List, [], _∷_, _++_, append-nil, List·Memᴰ·eq-of-singleton}
-use Prim.Native.Nat.{ℕ, _+_, _*_, _/_, _%_, _≤_, _<_}
+use Prim.Native.Nat.{ℕ, _+_, _*_, _≤_, _<_}
 use native.Mathlib.Nat.{le-refl}
 use native.Mathlib.Omega.{arith}
 use lib.ListN.{length, getD, set, replicate, length-set, length-append, length-replicate, getD-replicate}
@@ -13,28 +13,25 @@ use Rattle.model.specs.States.{state, IsState}
 use Rattle.model.specs.Computed.Edges.{bare}
 use Rattle.model.specs.Computed.Levels.{mostStates, states, stage}
 use Rattle.model.specs.Computed.Routes.{Node, startNode}
-use Rattle.model.specs.Queue.{_≺_, WalkBack, start, on, Queued, Searched, Going}
+use Rattle.model.specs.Queue.{WalkBack, start, on, Queued, Going}
 use Rattle.model.proofs.Levels.{state-is, state-zero, fresh-size}
-use Rattle.model.proofs.Trails.{step-state}
+use Rattle.model.proofs.WalksBack.{step-state}
 use Rattle.model.proofs.Routes.{met-route}
 use Rattle.model.proofs.RouteSearch.{starts, going-end, whole-met}
 use Rattle.level_search.specs.Run.{Searchable}
-use Rattle.route.specs.Work.{stateUnit, beforeUnit, queuedNumber, stateAt, nodeAt, HoldsNodes, Paused}
+use Rattle.route.specs.Work.{stateUnit, stateAt, nodeAt, Paused}
 use Rattle.route.specs.Run.{Traced}
-use Rattle.route.proofs.Holding.{node-in, state-in, marked-long, holds-chain}
-
-before-none : {x : ℕ} {p : List ℕ} → (x ∷ p) ≺ [] → ⊥
-before-none h = elim h [ ]
+use Rattle.route.proofs.Holding.{node-in, marked-long, holds-chain}
 
 module _ {vertices : ℕ} {edges l : List ℕ} {s t : ℕ} (r : Searchable vertices edges l s t) where
-  trail-state : {a : ℕ} {p : List ℕ} → WalkBack (bare vertices edges) l s a p → IsState (bare vertices edges) l a
-  trail-state start = state-is (bare vertices edges) l s 0 (r .vertices-small) (r .start) (r .short .least)
-  trail-state (on t h) = step-state (r .vertices-small) (r .short .least) h
+  back-state : {a : ℕ} {p : List ℕ} → WalkBack (bare vertices edges) l s a p → IsState (bare vertices edges) l a
+  back-state start = state-is (bare vertices edges) l s 0 (r .vertices-small) (r .start) (r .short .least)
+  back-state (on t h) = step-state (r .vertices-small) (r .short .least) h
 
   -- a node's state has its position in the pattern
   node-state : {w : List ℕ} {n k : ℕ} (d : Paused (bare vertices edges) l s w n k) (j : ℕ) → j < length (d .done ++ d .todo)
       → nodeAt s (d .done ++ d .todo) j .at < length l * mostVertices
-  node-state d j h = trail-state (d .going .walks (nodeAt s (d .done ++ d .todo) j) (node-in s (d .done ++ d .todo) j h)) .bound
+  node-state d j h = back-state (d .going .firsts .walks (nodeAt s (d .done ++ d .todo) j) (node-in s (d .done ++ d .todo) j h)) .bound
 
   pub paused-state : {w : List ℕ} {n k : ℕ} → Paused (bare vertices edges) l s w n k → k < n → stateAt w k < length l * mostVertices
   paused-state {k = k} d h =
@@ -79,9 +76,6 @@ module _ {vertices : ℕ} {edges l : List ℕ} {s t : ℕ} (r : Searchable verti
             rw e (omega (arith, q, r .start, r .vertices-small))
 
   module _ {w : List ℕ} {n k : ℕ} (d : Paused (bare vertices edges) l s w n k) where
-    searched : Searched (bare vertices edges) l s (d .done ++ d .todo) []
-    searched = record { rooted = d .going .rooted; walks = d .going .walks; least = d .going .least; closed = λ n m x z h b. absurd (before-none b) }
-
     small : t < mostStates
     small = omega (arith, r .destination, r .vertices-small)
 
@@ -97,7 +91,7 @@ module _ {vertices : ℕ} {edges l : List ℕ} {s t : ℕ} (r : Searchable verti
           some = λ _. (
             nodeAt s (d .done ++ d .todo) (getD w t 0) .back,
             c,
-            met-route (bare vertices edges) l s t (r .vertices-small) (r .short .least) (r .start) (r .destination) searched
+            met-route (bare vertices edges) l s t (r .vertices-small) (r .short .least) (r .start) (r .destination) (d .going .firsts)
                 (record { node = nodeAt s (d .done ++ d .todo) (getD w t 0); among = node-in s (d .done ++ d .todo) (getD w t 0) (m .inside); is = m .is ∙ sym (state-zero t); long = marked-long (d .holds) m }),
           );
         }

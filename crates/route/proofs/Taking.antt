@@ -3,7 +3,7 @@ use mathlib.Core.Path.{_≡_, refl, sym, ap, ap₂, _∙_, subst}
 use mathlib.Core.Bool.{not}
 use mathlib.Core.Logic.{_⊎_, ⊎-elim}
 use mathlib.Core.List.{List, [], _∷_, _++_, append-assoc}
-use Prim.Native.Nat.{ℕ, suc, _+_, _-_, _*_, _/_, _%_, _≤_, _<_}
+use Prim.Native.Nat.{ℕ, suc, _+_, _-_, _/_, _%_, _≤_, _<_}
 use native.Mathlib.Nat.{eq-or-lt-of-le}
 use native.Mathlib.Numerals.{add-one}
 use native.Mathlib.Decide.{decLt, ℕ-discrete}
@@ -16,17 +16,17 @@ use Rattle.model.specs.Lists.{_∈_, keep}
 use Rattle.model.specs.States.{IsState}
 use Rattle.model.specs.Computed.Edges.{bare}
 use Rattle.model.specs.Computed.Levels.{mostStates}
-use Rattle.model.specs.Computed.Routes.{ahead, StepBy, Node, nodeBy, startNode}
-use Rattle.model.specs.Queue.{Queued, Mid, Going}
+use Rattle.model.specs.Computed.Routes.{ahead, Node, nodeBy, startNode}
+use Rattle.model.specs.Queue.{StepBy, Queued, Mid, Going}
 use Rattle.model.proofs.Tests.{test-yields}
 use Rattle.model.proofs.Lists.{getD-in, in-getD, rising-lt, rising-le}
 use Rattle.model.proofs.Edges.{IsEdge, test-edge}
 use Rattle.model.proofs.Levels.{states-iff}
-use Rattle.model.proofs.Trails.{step-state}
+use Rattle.model.proofs.WalksBack.{step-state}
 use Rattle.model.proofs.RouteSearch.{mid-skip, mid-old, mid-new, going-mid, mid-going, keep-shorter}
 use Rattle.edges.specs.Slots.{Under}
 use Rattle.level_search.specs.Run.{Searchable}
-use Rattle.route.specs.Work.{stateUnit, queuedNumber, stateAt, nodeAt, HoldsNodes, Paused, During, Enqueues, keyOf, baseOf, NodeKeys, WaitingAt, TakesNodeAt}
+use Rattle.route.specs.Work.{queuedNumber, stateAt, nodeAt, HoldsNodes, Paused, During, Enqueues, keyOf, baseOf, NodeKeys, WaitingAt, TakesNodeAt}
 use Rattle.route.proofs.Holding.{marked-queued, holds-new}
 
 module _ {vertices : ℕ} {edges l : List ℕ} {s t : ℕ} (r : Searchable vertices edges l s t) where

@@ -1,13 +1,12 @@
 -- The walk back from a place: there is one, its links are read one after another, and it is written in running order.
 use mathlib.Core.Path.{_≡_, refl, sym, ap, ap₂, _∙_, subst}
-use mathlib.Core.List.{List, [], _∷_, _++_, reverse, reverseAux, reverseAux-eq}
-use Prim.Native.Nat.{ℕ, suc, _+_, _-_, _/_, _%_, _≤_, _<_}
+use mathlib.Core.List.{List, [], _∷_, reverseAux, reverseAux-eq}
+use Prim.Native.Nat.{ℕ, suc, _+_, _-_, _≤_, _<_}
 use native.Mathlib.Decide.{ℕ-discrete}
 use native.Mathlib.Omega.{arith}
-use lib.ListN.{length, set, drop, length-reverse, length-set}
+use lib.ListN.{length, set, drop, length-set}
 use lib.Seq.{getD-set-same, drop-cons, drop-set-lt}
-use Rattle.model.specs.Computed.Levels.{mostStates}
-use Rattle.route.specs.Work.{stateUnit, beforeUnit, queuedNumber, queuedAt, beforeAt, edgeAt}
+use Rattle.route.specs.Work.{queuedNumber, queuedAt, beforeAt, edgeAt}
 use Rattle.route.specs.Run.{Chain, done, link, Linked, CountsLinks, WritesWalk}
 
 -- one link of it

@@ -2,15 +2,15 @@
 -- queue, in the order in which states were reached, the start first. A queued number has the place of the node before, the state, and the edge
 -- that led there.
 use mathlib.Core.Path.{_≡_}
-use mathlib.Core.List.{List, [], _∷_, _++_}
+use mathlib.Core.List.{List, _∷_, _++_}
 use Prim.Native.Nat.{ℕ, suc, _+_, _*_, _/_, _%_, _^_, _≤_, _<_}
 use lib.ListN.{length, getD, set}
 use Rattle.model.specs.Limits.{mostVertices, fromUnit, labelUnit, leastWork}
 use Rattle.model.specs.Edges.{Graph}
 use Rattle.model.specs.Computed.Edges.{bare}
 use Rattle.model.specs.Computed.Levels.{mostStates}
-use Rattle.model.specs.Computed.Routes.{StepBy, Node, startNode}
-use Rattle.model.specs.Queue.{Queued, Mid, Going}
+use Rattle.model.specs.Computed.Routes.{Node, startNode}
+use Rattle.model.specs.Queue.{StepBy, Queued, Mid, Going}
 use Rattle.level_search.specs.Run.{Searchable}
 
 -- the units of a queued number's fields. An edge is below the first, and so many states fit between the two

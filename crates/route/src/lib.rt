@@ -21,7 +21,7 @@ ghost use Rattle.edges.specs.Slots.{Under, Starts};
 ghost use Rattle.calls.specs.Call.{lentOut, Meets};
 ghost use Rattle.calls.specs.Route.{routeCall};
 ghost use Rattle.level_search.specs.Run.{Searchable};
-ghost use Rattle.route.specs.Work.{stateUnit, Enqueues, Waiting, TakesNode, WaitingAt, TakesNodeAt};
+ghost use Rattle.route.specs.Work.{Enqueues, Waiting, TakesNode, WaitingAt, TakesNodeAt};
 ghost use Rattle.route.specs.Run.{Traced, Linked, CountsLinks, WritesWalk, LightsAt, Shows};
 
 // Work memory: for each state its place in the queue, or 0; then the queue.

@@ -1,11 +1,10 @@
 -- The route by a search: a queue of states, each with the first walk to it, in the order of these walks.
-use mathlib.Core.Path.{_≡_}
 use mathlib.Core.Bool.{Bool, not, _&&_, cond}
-use mathlib.Core.List.{List, [], _∷_, _++_, map, reverse}
-use Prim.Native.Nat.{ℕ, zero, suc, _+_, _*_, _/_, _%_, _<_}
+use mathlib.Core.List.{List, [], _∷_, _++_, reverse}
+use Prim.Native.Nat.{ℕ, zero, suc, _+_, _%_}
 use lib.Dec.{eqb, ltb}
 use lib.ListN.{length, getD}
-use Rattle.model.specs.Lists.{_∈_, keep, mem?, empty?}
+use Rattle.model.specs.Lists.{keep, mem?, empty?}
 use Rattle.model.specs.Edges.{Graph, edgeNumber, toOf}
 use Rattle.model.specs.States.{state, vertexOf, usedOf}
 use Rattle.model.specs.Computed.Levels.{states}
@@ -14,13 +13,7 @@ use Rattle.model.specs.Computed.Levels.{states}
 abbrev pub ahead : List ℕ → ℕ → ℕ → ℕ
 ahead l a x = state (toOf x) (suc (usedOf a) % length l)
 
--- x is an edge of the next label from the state a, and leads to z
-pub record StepBy (g : Graph) (l : List ℕ) (a x z : ℕ) : Type 0 where
-  pub stands : x ∈ g .edges
-  pub number : x ≡ edgeNumber (vertexOf a) (getD l (usedOf a) 0) (toOf x)
-  pub to : toOf x < g .vertices
-  pub is : z ≡ ahead l a x
-
+-- x is an edge of the next label from the state a
 unfoldable pub follows? : Graph → List ℕ → ℕ → ℕ → Bool
 follows? g l a x = eqb x (edgeNumber (vertexOf a) (getD l (usedOf a) 0) (toOf x)) && ltb (toOf x) (g .vertices)
 

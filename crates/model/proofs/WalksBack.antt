@@ -1,24 +1,24 @@
--- Trails: walks from (s, 0) over states, as the search takes them. They are the walks that spell whole patterns, and they are in step with the levels.
-use mathlib.Core.Path.{_≡_, refl, sym, ap, ap₂, _∙_, subst}
-use mathlib.Core.Logic.{_⊎_, inl, inr, ⊎-elim, _↔_}
-use mathlib.Core.List.{List, [], _∷_, _++_, reverse, reverseAux, append-nil, append-assoc, reverse-cons, reverse-reverse, cons≢nil, head-eq-of-cons-eq, tail-eq-of-cons-eq}
-use Prim.Native.Nat.{ℕ, zero, suc, _+_, _*_, _/_, _%_, _≤_, _<_}
+-- Walks back: walks from (s, 0) over states, by their edges, the last one first. They are the walks that spell whole patterns, and they are in step
+-- with the levels.
+use mathlib.Core.Path.{_≡_, refl, sym, ap, ap₂, _∙_}
+use mathlib.Core.Logic.{_⊎_, inl, inr, ⊎-elim}
+use mathlib.Core.List.{List, [], _∷_, _++_, reverse, reverseAux, append-nil, append-assoc, reverse-cons, cons≢nil, head-eq-of-cons-eq, tail-eq-of-cons-eq}
+use Prim.Native.Nat.{ℕ, zero, suc, _+_, _%_, _≤_, _<_}
 use native.Mathlib.Nat.{eq-or-lt-of-le, mod-eq-of-lt, mod-self, mod-lt}
 use native.Mathlib.Omega.{arith}
-use lib.ListN.{length, getD, take, drop, length-reverse}
+use lib.ListN.{length, getD, take, drop}
 use lib.Seq.{take-suc, drop-cons, take-length, drop-length}
 use Rattle.model.specs.Lists.{_∈_}
 use Rattle.model.specs.Limits.{mostVertices}
 use Rattle.model.specs.Edges.{Graph, edgeNumber, toOf}
 use Rattle.model.specs.Patterns.{times}
-use Rattle.model.specs.Walks.{Edge, Spells, Runs}
+use Rattle.model.specs.Walks.{Edge, Spells}
 use Rattle.model.specs.States.{IsState, state, vertexOf, usedOf, Leads}
 use Rattle.model.specs.Computed.Levels.{level}
-use Rattle.model.proofs.Walks.{runs-spells, spells-runs}
 use Rattle.model.proofs.Levels.{vertex-state, used-state, state-zero, state-is, Met, look, level-zero, level-iff}
 use Rattle.model.specs.Routes.{Walked, here, edge, Candidate}
-use Rattle.model.specs.Computed.Routes.{ahead, StepBy}
-use Rattle.model.specs.Queue.{WalkBack, start, on}
+use Rattle.model.specs.Computed.Routes.{ahead}
+use Rattle.model.specs.Queue.{StepBy, WalkBack, start, on}
 
 -- ---- a step is an edge of the next label
 
@@ -47,33 +47,33 @@ leads-step {g} {l} {a} {z} q h =
     }
 
 -- ---- a walk's edges determine the state that it ends in
-pub trail-same : {g : Graph} {l : List ℕ} {s : ℕ} {a b : ℕ} {p q : List ℕ} → WalkBack g l s a p → WalkBack g l s b q → p ≡ q → a ≡ b
-trail-same start start e = refl
-trail-same start (on u k) e = absurd (cons≢nil (sym e))
-trail-same (on t h) start e = absurd (cons≢nil e)
-trail-same {l = l} (on t h) (on u k) e = h .is ∙ ap₂ (λ (a : ℕ) (x : ℕ). ahead l a x) (trail-same t u (tail-eq-of-cons-eq e)) (head-eq-of-cons-eq e) ∙ sym (k .is)
+pub back-same : {g : Graph} {l : List ℕ} {s : ℕ} {a b : ℕ} {p q : List ℕ} → WalkBack g l s a p → WalkBack g l s b q → p ≡ q → a ≡ b
+back-same start start e = refl
+back-same start (on u k) e = absurd (cons≢nil (sym e))
+back-same (on t h) start e = absurd (cons≢nil e)
+back-same {l = l} (on t h) (on u k) e = h .is ∙ ap₂ (λ (a : ℕ) (x : ℕ). ahead l a x) (back-same t u (tail-eq-of-cons-eq e)) (head-eq-of-cons-eq e) ∙ sym (k .is)
 
 -- ---- levels
 
 module _ (g : Graph) (l : List ℕ) (s : ℕ) where
-  -- a state of level i has a trail of i edges
-  pub level-trail : (i z : ℕ) → z ∈ level g l s i → (p : List ℕ) × WalkBack g l s z p × (length p ≡ i)
-  level-trail zero z m = let e : z ≡ state s 0 = level-zero g l s z .0 m ∙ sym (state-zero s) in ([], rw e start, refl)
-  level-trail (suc i) z m =
+  -- a state of level i has a walk back of i edges
+  pub level-back : (i z : ℕ) → z ∈ level g l s i → (p : List ℕ) × WalkBack g l s z p × (length p ≡ i)
+  level-back zero z m = let e : z ≡ state s 0 = level-zero g l s z .0 m ∙ sym (state-zero s) in ([], rw e start, refl)
+  level-back (suc i) z m =
       let r = level-iff g l s i z .0 m in
       let (a, k, led) = r .source in
-      let (p, t, e) = level-trail i a k in
+      let (p, t, e) = level-back i a k in
       (_, on t (leads-step (r .is-state) led), ap suc e)
 
-  -- a trail of i edges ends in a state that is met by level i
-  pub trail-met : g .vertices ≤ mostVertices → 1 ≤ length l → {a x z : ℕ} {p : List ℕ} → WalkBack g l s a p → StepBy g l a x z → Met g l s (suc (length p)) z
-  trail-met small full start h = go 0 (omega arith) (level-zero g l s (state s 0) .1 (state-zero s)) h
+  -- a walk back of i edges ends in a state that is met by level i
+  pub back-met : g .vertices ≤ mostVertices → 1 ≤ length l → {a x z : ℕ} {p : List ℕ} → WalkBack g l s a p → StepBy g l a x z → Met g l s (suc (length p)) z
+  back-met small full start h = go 0 (omega arith) (level-zero g l s (state s 0) .1 (state-zero s)) h
     where
       go : (j : ℕ) → j ≤ 0 → {a x z : ℕ} → a ∈ level g l s j → StepBy g l a x z → Met g l s 1 z
       go j k {a} {x} {z} m h = ⊎-elim
           (λ f. record { at = suc j; first = omega arith; last = omega arith; stands = level-iff g l s j z .1 (record { is-state = step-state small full h; fresh = f; source = (a, m, step-leads h) }) })
           (λ d. record { at = d .at; first = d .first; last = omega (arith, d .last); stands = d .stands }) (look g l s j z)
-  trail-met small full (on {a = b} {p = p} t k) h = go (trail-met small full t k) h
+  back-met small full (on {a = b} {p = p} t k) h = go (back-met small full t k) h
     where
       go : {a x z : ℕ} → Met g l s (suc (length p)) a → StepBy g l a x z → Met g l s (suc (suc (length p))) z
       go {a} {x} {z} m h = ⊎-elim
@@ -127,7 +127,7 @@ module _ (g : Graph) (l : List ℕ) (s : ℕ) (small : g .vertices ≤ mostVerti
         is = rw (to, u) refl;
       }
 
-  -- a walk that spells the rest of a pattern and then whole ones, behind a trail to where the rest begins
+  -- a walk that spells the rest of a pattern and then whole ones, behind a walk back to where the rest begins
   walked-on : {a t : ℕ} {w es p : List ℕ} (i j : ℕ) → Walked g a w es t → i < length l → w ≡ drop i l ++ times j l → WalkBack g l s (state a i) p → WalkBack g l s (state t 0) (reverseAux es p)
   walked-on i j here h e t = absurd (cons≢nil (sym (e ∙ ap (λ (m : List ℕ). m ++ times j l) (drop-cons l i 0 h))))
   walked-on {t = t} {p = p} i j (edge {a = a} {c = c} {b = b} {w = w} {es = es} d q) h e u = go (λ i j h e t. walked-on i j q h e t) (eq-or-lt-of-le h)
@@ -154,8 +154,8 @@ module _ (g : Graph) (l : List ℕ) (s : ℕ) (small : g .vertices ≤ mostVerti
           whole j f (rest ∙ ap (λ (m : List ℕ). m ++ times j l) r) (rw n at further)
       go f (inr k) = f (suc i) j k rest (rw (mod-eq-of-lt k) at further)
 
-  pub candidate-trail : {t : ℕ} {es : List ℕ} → Candidate g l s t es → WalkBack g l s (state t 0) (reverse es)
-  candidate-trail c = walked-on 0 (c .more) (c .walk) full (times-more (c .more) l) start
+  pub candidate-back : {t : ℕ} {es : List ℕ} → Candidate g l s t es → WalkBack g l s (state t 0) (reverse es)
+  candidate-back c = walked-on 0 (c .more) (c .walk) full (times-more (c .more) l) start
 
   -- and back: whole patterns, and then the labels used
   record Spelt (z : ℕ) (p : List ℕ) : Type 0 where
@@ -201,8 +201,8 @@ module _ (g : Graph) (l : List ℕ) (s : ℕ) (small : g .vertices ≤ mostVerti
       record { often = 0; inside = omega arith; vertex = rw v hs; walk = rw (u, v, times-none l) here; whole = λ k _. absurd (omega arith) }
   spelt hs (on t h) = further (spelt hs t) h
 
-  pub trail-candidate : {t : ℕ} {p : List ℕ} → s < g .vertices → t < g .vertices → 1 ≤ length p → WalkBack g l s (state t 0) p → Candidate g l s t (reverse p)
-  trail-candidate {t} {p} hs ht k tr = go (r .often) (r .whole k u) (rw (u, append-nil, v) at (r .walk))
+  pub back-candidate : {t : ℕ} {p : List ℕ} → s < g .vertices → t < g .vertices → 1 ≤ length p → WalkBack g l s (state t 0) p → Candidate g l s t (reverse p)
+  back-candidate {t} {p} hs ht k tr = go (r .often) (r .whole k u) (rw (u, append-nil, v) at (r .walk))
     where
       r : Spelt (state t 0) p
       r = spelt hs tr
