@@ -1,5 +1,5 @@
 -- Lists that are computed, what stands in them, and in which order.
-use mathlib.Core.Path.{_≡_, refl, sym, ap, _∙_}
+use mathlib.Core.Path.{_≡_, refl, sym, ap, _∙_, subst}
 use mathlib.Core.Logic.{_⊎_, inl, inr, ⊎-elim, _≢_}
 use mathlib.Core.Bool.{Bool, true, false, not}
 use mathlib.Core.List.{List, [], _∷_, _++_, append-nil, append-assoc, List·Memᴰ, List·Memᴰ·head, List·Memᴰ·tail, List·Memᴰ·cases-cons, List·Memᴰ·not-nil, List·Memᴰ·append-cases, Memᴰ·append-left, Memᴰ·append-right, Memᴰ·of-map, map}
@@ -86,7 +86,28 @@ unfolding from
 rising-from a zero = none
 rising-from a (suc m) = next (λ z h. from-out (suc a) m z h .0) (rising-from (suc a) m)
 
+-- a list that has an element has one at least
+pub member-long : {A : Type 0} (l : List A) {z : A} → List·Memᴰ z l → 1 ≤ length l
+member-long [] h = absurd (List·Memᴰ·not-nil h)
+member-long (x ∷ l) h = omega arith
+
 module _ {A : Type 0} {R : A → A → Type 0} where
+  pub sorted-head : {y : A} {m : List A} → Sorted R (y ∷ m) → (z : A) → List·Memᴰ z m → R y z
+  sorted-head (next f s) = f
+
+  pub sorted-tail : {y : A} {m : List A} → Sorted R (y ∷ m) → Sorted R m
+  sorted-tail (next f s) = s
+
+  -- of two lists, one behind the other
+  pub sorted-back : (l : List A) {m : List A} → Sorted R (l ++ m) → Sorted R m
+  sorted-back [] s = s
+  sorted-back (y ∷ l) (next f s) = sorted-back l s
+
+  pub sorted-across : (l : List A) {m : List A} → Sorted R (l ++ m) → {x z : A} → List·Memᴰ x l → List·Memᴰ z m → R x z
+  sorted-across [] s h k = absurd (List·Memᴰ·not-nil h)
+  sorted-across (y ∷ l) (next f s) {x} {z} h k =
+      ⊎-elim (λ e. subst (λ (u : A). R u z) (sym e) (f z (Memᴰ·append-right l k))) (λ i. sorted-across l s i k) (List·Memᴰ·cases-cons h)
+
   sorted-put : (b : Bool) (x : A) {l : List A} → ((z : A) → List·Memᴰ z l → R x z) → Sorted R l → Sorted R (put b x l)
   sorted-put true x f s = next f s
   sorted-put false x f s = s

@@ -49,6 +49,12 @@ unfolding times
 length-times zero m = omega arith
 length-times (suc j) m = omega (arith, length-append m (times j m), length-times j m)
 
+-- the last writing stands behind the others
+pub times-last : (j : ℕ) (m : List ℕ) → times j m ++ m ≡ m ++ times j m
+unfolding times
+times-last zero m = sym (append-nil m)
+times-last (suc j) m = append-assoc m (times j m) m ∙ ap (λ (l : List ℕ). m ++ l) (times-last j m)
+
 pub times-pos : (j : ℕ) (m l : List ℕ) → times j m ≡ l → 1 ≤ length l → 1 ≤ length m
 times-pos j [] l e h = absurd (omega (arith, ap length e, length-times j []))
 times-pos j (c ∷ m) l e h = omega arith

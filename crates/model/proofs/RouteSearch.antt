@@ -2,21 +2,21 @@
 use mathlib.Core.Path.{_≡_, refl, sym, ap, _∙_, subst}
 use mathlib.Core.Logic.{_⊎_, inl, inr, ⊎-elim, _↔_}
 use mathlib.Core.Bool.{not, _&&_}
-use mathlib.Core.List.{List, [], _∷_, _++_, reverse, append-nil, append-assoc, List·Memᴰ, List·Memᴰ·head, List·Memᴰ·tail, List·Memᴰ·cases-cons, List·Memᴰ·not-nil, List·Memᴰ·append-cases, List·Memᴰ·eq-of-singleton, Memᴰ·append-left, Memᴰ·append-right}
+use mathlib.Core.List.{List, [], _∷_, _++_, reverse, append-nil, append-assoc, List·Memᴰ·head, List·Memᴰ·tail, List·Memᴰ·cases-cons, List·Memᴰ·not-nil, List·Memᴰ·append-cases, List·Memᴰ·eq-of-singleton, Memᴰ·append-left, Memᴰ·append-right}
 use Prim.Native.Nat.{ℕ, zero, suc, _+_, _≤_, _<_}
 use native.Mathlib.Nat.{eq-or-lt-of-le}
 use native.Mathlib.Decide.{decLt, ℕ-discrete}
 use native.Mathlib.Omega.{arith}
 use lib.Dec.{eqb}
 use lib.ListN.{length, getD, length-append, length-reverse}
-use Rattle.model.specs.Lists.{_∈_, keep, empty?, Sorted, none, next, Rising}
+use Rattle.model.specs.Lists.{_∈_, keep, empty?, none, next, Rising}
 use Rattle.model.specs.Limits.{mostVertices}
 use Rattle.model.specs.Edges.{Graph, edgeNumber, toOf}
 use Rattle.model.specs.Walks.{Runs}
 use Rattle.model.specs.States.{state, vertexOf, usedOf}
 use Rattle.model.specs.Computed.Levels.{states}
 use Rattle.model.proofs.Tests.{Tests, test-and, test-not, test-eq, test-lt, test-mem, by-test}
-use Rattle.model.proofs.Lists.{keep-in, keep-out, length-keep, sorted-keep, sorted-append}
+use Rattle.model.proofs.Lists.{member-long, keep-in, keep-out, length-keep, sorted-head, sorted-tail, sorted-back, sorted-across, sorted-keep, sorted-append}
 use Rattle.model.proofs.Levels.{states-iff}
 use Rattle.model.specs.Routes.{Route}
 use Rattle.model.specs.Computed.Routes.{ahead, follows?, Node, nodeBy, Frontier, visit, visitAll, search, startNode, pick, routeOf}
@@ -26,27 +26,9 @@ use Rattle.model.proofs.WalksBack.{step-state, candidate-back}
 use Rattle.model.proofs.Queue.{met-later, covered, skip-to, step-old, step-new}
 use Rattle.model.proofs.Routes.{route-unique, candidate-runs, runs-candidate, candidate-long, met-route}
 
-sorted-across : {A : Type 0} {R : A → A → Type 0} (l : List A) {m : List A} → Sorted R (l ++ m) → {x z : A} → List·Memᴰ x l → List·Memᴰ z m → R x z
-sorted-across [] s h k = absurd (List·Memᴰ·not-nil h)
-sorted-across {R = R} (y ∷ l) {m} (next f s) {x} {z} h k = ⊎-elim (λ e. subst (λ u. R u z) (sym e) (f z (Memᴰ·append-right l k))) (λ i. sorted-across l s i k) (List·Memᴰ·cases-cons h)
-
-sorted-back : {A : Type 0} {R : A → A → Type 0} (l : List A) {m : List A} → Sorted R (l ++ m) → Sorted R m
-sorted-back [] s = s
-sorted-back (y ∷ l) (next f s) = sorted-back l s
-
-sorted-head : {A : Type 0} {R : A → A → Type 0} {y : A} {m : List A} → Sorted R (y ∷ m) → (z : A) → List·Memᴰ z m → R y z
-sorted-head (next f s) = f
-
-sorted-tail : {A : Type 0} {R : A → A → Type 0} {y : A} {m : List A} → Sorted R (y ∷ m) → Sorted R m
-sorted-tail (next f s) = s
-
 -- a list without an element of it is shorter
 pub keep-shorter : (z : ℕ) (m : List ℕ) → z ∈ m → length (keep (λ x. not (eqb x z)) m) + 1 ≤ length m
-keep-shorter z m h = omega (arith, length-keep (λ x. eqb x z) m, some (keep (λ x. eqb x z) m) (keep-in (λ x. eqb x z) h ((test-eq z z) .passes refl)))
-  where
-    some : (k : List ℕ) → z ∈ k → 1 ≤ length k
-    some [] i = absurd (List·Memᴰ·not-nil i)
-    some (x ∷ k) i = omega arith
+keep-shorter z m h = omega (arith, length-keep (λ x. eqb x z) m, member-long (keep (λ x. eqb x z) m) (keep-in (λ x. eqb x z) h ((test-eq z z) .passes refl)))
 
 next-edge : (x : ℕ) (p : List ℕ) → (x ∷ p) ≺ (suc x ∷ p)
 next-edge x p = last {e = x} {f = suc x} refl (omega arith)

@@ -1,7 +1,7 @@
 -- Laws of routes: there is at most one, it runs the pattern, its length is the first level that has (t, 0), and the queue's node is it.
 use mathlib.Core.Path.{_≡_, refl, sym, ap, _∙_, subst}
 use mathlib.Core.Logic.{_⊎_, inl, inr}
-use mathlib.Core.List.{List, [], _∷_, reverse, reverse-reverse, List·Memᴰ·not-nil}
+use mathlib.Core.List.{List, reverse, reverse-reverse}
 use Prim.Native.Nat.{ℕ, zero, suc, _+_, _*_, _≤_, _<_}
 use native.Mathlib.Nat.{eq-or-lt-of-le, le-antisymm}
 use native.Mathlib.Decide.{decLt}
@@ -14,6 +14,7 @@ use Rattle.model.specs.Walks.{Runs}
 use Rattle.model.specs.States.{state, Yes}
 use Rattle.model.specs.Computed.Levels.{stage, level, levelReply}
 use Rattle.model.specs.Levels.{Told, found}
+use Rattle.model.proofs.Lists.{member-long}
 use Rattle.model.proofs.Patterns.{length-times}
 use Rattle.model.proofs.Walks.{runs-spells, spells-runs}
 use Rattle.model.proofs.Levels.{Met, level-iff, level-size, fresh-size}
@@ -110,10 +111,6 @@ module _ (g : Graph) (l : List ℕ) (s t : ℕ) (small : g .vertices ≤ mostVer
       go (found c h q m) = level-route (record { positive = omega arith; has = m; none = λ j a b. q j a (omega arith) .0 }) r
 
   -- ---- a route has no more edges than there are states
-
-  member-long : (m : List ℕ) {z : ℕ} → z ∈ m → 1 ≤ length m
-  member-long [] k = absurd (List·Memᴰ·not-nil k)
-  member-long (x ∷ m) k = omega arith
 
   levels-long : (c z : ℕ) → z ∈ level g l s c → c + length (stage g l s c .fresh) ≤ length l * mostVertices
   levels-long zero z m = omega (arith, fresh-size g l s)

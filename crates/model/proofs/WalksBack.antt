@@ -15,6 +15,7 @@ use Rattle.model.specs.Patterns.{times}
 use Rattle.model.specs.Walks.{Edge, Spells}
 use Rattle.model.specs.States.{IsState, state, vertexOf, usedOf, Leads}
 use Rattle.model.specs.Computed.Levels.{level}
+use Rattle.model.proofs.Patterns.{times-last}
 use Rattle.model.proofs.Levels.{vertex-state, used-state, state-zero, state-is, Met, look, level-zero, level-iff}
 use Rattle.model.specs.Routes.{Walked, here, edge, Candidate}
 use Rattle.model.specs.Computed.Routes.{ahead}
@@ -100,12 +101,6 @@ module _ {g : Graph} where
   still e here = (refl, refl)
   still e (edge _ p) = absurd (cons≢nil e)
 
--- l written once more, at the end
-times-snoc : (j : ℕ) (l : List ℕ) → times j l ++ l ≡ times (suc j) l
-unfolding times
-times-snoc zero l = sym (append-nil l)
-times-snoc (suc j) l = append-assoc l (times j l) l ∙ ap (λ (m : List ℕ). l ++ m) (times-snoc j l)
-
 times-none : (l : List ℕ) → times 0 l ≡ []
 unfolding times
 times-none l = refl
@@ -113,6 +108,10 @@ times-none l = refl
 times-more : (j : ℕ) (l : List ℕ) → times (suc j) l ≡ l ++ times j l
 unfolding times
 times-more j l = refl
+
+-- l written once more, at the end
+times-snoc : (j : ℕ) (l : List ℕ) → times j l ++ l ≡ times (suc j) l
+times-snoc j l = times-last j l ∙ sym (times-more j l)
 
 module _ (g : Graph) (l : List ℕ) (s : ℕ) (small : g .vertices ≤ mostVertices) (full : 1 ≤ length l) where
   edge-step : {a c b : ℕ} (i : ℕ) → Edge g a c b → getD l i 0 ≡ c → StepBy g l (state a i) (edgeNumber a c b) (state b (suc i % length l))

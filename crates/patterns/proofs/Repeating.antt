@@ -1,6 +1,6 @@
 -- Words that repeat: a list of j * d elements is its first d, written j times, if each element from index d on is the one d before it.
 use mathlib.Core.Path.{_≡_, refl, sym, ap, _∙_}
-use mathlib.Core.List.{List, [], _∷_, _++_, append-nil, append-assoc}
+use mathlib.Core.List.{List, [], _∷_, _++_, append-nil}
 use Prim.Native.Nat.{ℕ, zero, suc, _+_, _-_, _*_, _≤_, _<_}
 use native.Mathlib.Nat.{not-suc-le-zero, suc-mul}
 use native.Mathlib.Omega.{arith}
@@ -8,16 +8,11 @@ use lib.ListN.{length, take, drop, getD, length-append, length-drop, take-append
 use lib.Seq.{length-take-le, take-all, getD-append-add, getD-take, getD-drop, ext-getD}
 use Rattle.model.specs.Patterns.{times}
 use Rattle.model.proofs.Lists.{Below}
+use Rattle.model.proofs.Patterns.{times-last}
 
 -- the element at index j is the one d before it
 abbrev pub Back : List ℕ → ℕ → ℕ → Type 0
 Back l d j = d ≤ j → getD l j 0 ≡ getD l (j - d) 0
-
--- the last writing stands behind the others
-times-last : (j : ℕ) (w : List ℕ) → times j w ++ w ≡ w ++ times j w
-unfolding times
-times-last zero w = sym (append-nil w)
-times-last (suc j) w = append-assoc w (times j w) w ∙ ap (λ (l : List ℕ). w ++ l) (times-last j w)
 
 pub times-back : (j : ℕ) (w : List ℕ) (i : ℕ) → i < length (times j w) → Back (times j w) (length w) i
 unfolding times

@@ -24,7 +24,8 @@ ghost use Rattle.level_search.specs.Run.{Searchable};
 ghost use Rattle.route.specs.Work.{Enqueues, Waiting, TakesNode, WaitingAt, TakesNodeAt};
 ghost use Rattle.route.specs.Run.{Traced, Linked, CountsLinks, WritesWalk, LightsAt, Shows};
 
-// Work memory: for each state its place in the queue, or 0; then the queue.
+// Work memory: for each state its place in the queue, or 0; then the queue. The start stands at place 0, and counts as reached only once an edge
+// leads back to it.
 const QUEUE: usize = MOST_LONGEST * MOST_VERTICES;
 
 // A queued number: the place of the node before, the state, and the edge that led there.
@@ -32,6 +33,7 @@ const BEFORE_UNIT: u64 = 1 << 48;
 
 const STATE_UNIT: u64 = 1 << 32;
 
+// How many numbers the state's field has room for.
 const STATES: u64 = BEFORE_UNIT / STATE_UNIT;
 
 // Queues the state y, reached from node k by an edge, if it is not queued yet.
@@ -163,7 +165,7 @@ fn light(work: &[u64], place: usize, walk: &mut [u32]) -> RouteReply
 }
 
 // Lights the route from s to t, with work memory of any content, which it leaves zero.
-pub fn run(
+fn run(
     vertices: u32,
     edges: &[u32],
     pattern: &[u8],
