@@ -97,9 +97,9 @@ uint32_t rlc_query(const uint32_t *record, size_t record_n, uint32_t start, uint
 uint64_t rlc_search(const uint32_t *record, size_t record_n, uint32_t start, uint32_t destination, const uint8_t *pattern, size_t pattern_n,
                     uint32_t level_limit, const uint32_t *edges, size_t edges_n, uint64_t *work, size_t work_n);
 
-/* Gives the route: of the walks that run the pattern as keyed those with the fewest edges, and of these the one whose
- * edges, compared by their numbers one after another from the start, come first. Its edges are written to the front
- * of walk memory in running order, and nothing behind them is touched; 1,024 slots always suffice.
+/* Gives the route: the walk with the fewest edges that runs the pattern as keyed; of several, the one whose edge
+ * numbers, compared one after another from the start, come first. Its edges are written to the front of walk memory
+ * in running order, and nothing behind them is touched; 1,024 slots always suffice.
  * Refusals 1 2 3 4 10 11, and last 18. Returns reply * 2^32 + number of edges: reply 100 with the edges, 0 no (and
  * walk memory is untouched), else the refusal with 0. A record without 2 numbers gives 255 * 2^32. */
 uint64_t rlc_route(const uint32_t *record, size_t record_n, uint32_t start, uint32_t destination, const uint8_t *pattern, size_t pattern_n,

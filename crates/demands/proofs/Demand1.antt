@@ -7,7 +7,7 @@ use Prim.Native.Nat.{ℕ, zero, suc, _≤_}
 use native.Mathlib.Omega.{arith}
 use lib.ListN.{length, drop}
 use lib.Seq.{take-append-seam, drop-append-seam}
-use lib.Dec.{T, eqb, leb}
+use lib.Dec.{T, eqb}
 use Rattle.model.specs.Lists.{zeroed}
 use Rattle.model.specs.Edges.{Graph, standing}
 use Rattle.model.specs.Routes.{Routed, Yes as RoutedYes, No as RoutedNo, Refused as RoutedRefused}
@@ -26,6 +26,7 @@ use Rattle.calls.specs.Route.{lit, lighting, routeCall}
 use Rattle.calls.specs.Query.{saying, queryRefusal, queryCall}
 use Rattle.calls.specs.Change.{refusedWith, fits?, settle, openRefusal, openCall, insertRefusal, insertCall, removeRefusal, removeCall}
 use Rattle.calls.specs.Card.{readRefusal, readCall, cardOf, writeRefusal, writeCall}
+use Rattle.calls.proofs.Route.{LightingCase, nothing, fits, too-long, lighting-case}
 use Rattle.demands.specs.Demand1.{Zeroing, Keeps, ChangeKeeps, searchNumber, queryNumber, routeNumber, writeNumber, Leaves, LeavesWalk, Demand1}
 use Rattle.demands.proofs.Asking.{number-refuses, once-is, repeats-is}
 
@@ -150,18 +151,19 @@ dark-leaves m h f = record { no = f; yes = λ n e. absurd (let z = ap yesNo e in
 routed-keeps : (n : ℕ) → ¬ Zeroing n → (es : List ℕ) (m : Memory) →
     let c = refusing RoutedRefused m n (lighting es m) in
     Keeps m c (routeNumber (c .reply)) × LeavesWalk m c
-unfolding lighting
 routed-keeps (suc n) d es m = (
   record { refused = λ _ _. refl; zeroing = λ q. absurd (d q) },
   dark-leaves m (omega arith) (λ e. absurd (let z : 2 ≡ 1 = ap yesNo e in omega (arith, z))),
 )
-routed-keeps zero d [] m = (accepted-keeps refl, dark-leaves m (omega arith) (λ _. refl))
-routed-keeps zero d (x ∷ es) m = both-ways (leb (length (x ∷ es)) (length (m .output)))
-    (λ e. rw e (accepted-keeps refl, lit-leaves (x ∷ es) m))
-    (λ e. rw e (
+routed-keeps zero d es m = go (lighting-case es m)
+  where
+    go : {c : Outcome Routed} → LightingCase es m c → Keeps m c (routeNumber (c .reply)) × LeavesWalk m c
+    go (nothing e) = (accepted-keeps refl, dark-leaves m (omega arith) (λ _. refl))
+    go (fits some enough) = (accepted-keeps refl, lit-leaves es m)
+    go (too-long less) = (
       record { refused = λ _ d. absurd (d (inr refl)); zeroing = λ _. refl },
       dark-leaves m (omega arith) (λ e. absurd (let z : 2 ≡ 1 = ap yesNo e in omega (arith, z))),
-    ))
+    )
 
 -- ---- a written card
 

@@ -16,44 +16,42 @@ use Rattle.model.specs.Computed.Edges.{edgeMemory?}
 use Rattle.model.specs.Computed.Patterns.{keyed?}
 use Rattle.model.specs.Computed.Routes.{routeOf}
 use Rattle.model.specs.Levels.{Decides, runs, runs-not}
-use Rattle.model.proofs.Tests.{test-yields, test-fails, test-le, both-ways}
 use Rattle.model.proofs.Memory.{edge-memory}
 use Rattle.model.proofs.Search.{told, decides}
 use Rattle.model.proofs.Routes.{candidate-long, candidate-runs, reply-route, route-short}
-use Rattle.model.proofs.RouteSearch.{RoutedBy, lit, dark, route-of}
+use Rattle.model.proofs.RouteSearch.{RoutedBy, is-route, no-route, route-of}
 use Rattle.calls.specs.Checks.{vertices?, longest?, ends?, Check}
-use Rattle.calls.specs.Call.{Header, graphOf, Memory}
+use Rattle.calls.specs.Call.{Header, graphOf, Memory, Outcome}
 use Rattle.calls.specs.Search.{searchRefusal, searchCall}
-use Rattle.calls.specs.Route.{lighting, routeCall}
+use Rattle.calls.specs.Route.{routeCall}
 use Rattle.calls.proofs.Passing.{passing}
+use Rattle.calls.proofs.Route.{LightingCase, nothing, fits, too-long, lighting-case}
 use Rattle.calls.proofs.Query.{Allowed, allowed}
 use Rattle.demands.specs.Demand1.{searchNumber}
 use Rattle.demands.proofs.Demand1.{yesNo, edgesIn, told-none}
-use Rattle.demands.specs.Demand2.{Lit, lit as is-lit, short, none}
+use Rattle.demands.specs.Demand2.{Lit, lit, short, none}
 
 -- a route's edges, or none, as they are lit
-lit-by : {g : Graph} {l : List ℕ} {s t : ℕ} (es : List ℕ) → 1 ≤ length l → RoutedBy g l s t es → (m : Memory)
-    → Lit g l s t (m .output) (lighting es m .reply) (lighting es m .memory .output)
-unfolding lighting
-lit-by [] full (lit r) m = absurd (let z = candidate-long full (r .runs) in omega arith)
-lit-by [] full (dark d) m = none d
-lit-by (x ∷ es) full (lit r) m =
-    let fits = test-le (length (x ∷ es)) (length (m .output)) in
-    both-ways (leb (length (x ∷ es)) (length (m .output)))
-    (λ e. rw e (is-lit (x ∷ es) r (test-yields fits e)))
-    (λ e. rw e (short (x ∷ es) r (let z = test-fails fits e in omega arith)))
+lit-by : {g : Graph} {l : List ℕ} {s t : ℕ} → 1 ≤ length l → {es : List ℕ} → RoutedBy g l s t es → {m : Memory} {c : Outcome Routed} → LightingCase es m c
+    → Lit g l s t (m .output) (c .reply) (c .memory .output)
+lit-by full (is-route {es = es} r) (nothing e) = absurd (let z = candidate-long full (r .runs) in omega (arith, ap length e))
+lit-by full (is-route {es = es} r) (fits some enough) = lit es r enough
+lit-by full (is-route {es = es} r) (too-long less) = short es r less
+lit-by full (no-route d) (nothing e) = none d
+lit-by full (no-route d) (fits some enough) = absurd (omega arith)
+lit-by full (no-route d) (too-long less) = absurd (omega arith)
 
 -- the edges of one that is given
 pub lit-route : {g : Graph} {l : List ℕ} {s t : ℕ} {walk after : List ℕ} {r : Routed} {n : ℕ} → Lit g l s t walk r after → r ≡ Yes n
     → (es : List ℕ) × Route g l s t es × (length es ≡ n)
-lit-route (is-lit es r h) e = (es, r, ap edgesIn e)
+lit-route (lit es r h) e = (es, r, ap edgesIn e)
 lit-route (short es r h) e = absurd (let z : 2 ≡ 0 = ap yesNo e in omega arith)
 lit-route (none d) e = absurd (let z : 1 ≡ 0 = ap yesNo e in omega arith)
 
 -- where walk memory is long enough for any route, one is given if a walk runs the pattern
 pub runs-lit : {g : Graph} {l : List ℕ} {s t : ℕ} → Bounds (g .vertices) (g .longest) → Keyed (g .longest) l → s < g .vertices → t < g .vertices
     → {walk after : List ℕ} {r : Routed} → mostLongest * mostVertices ≤ length walk → Lit g l s t walk r after → Runs g l s t → (n : ℕ) × (r ≡ Yes n)
-runs-lit b k hs ht long (is-lit es r h) p = (length es, refl)
+runs-lit b k hs ht long (lit es r h) p = (length es, refl)
 runs-lit {g} {l} {s} {t} b k hs ht long (short es r h) p =
     absurd (let z = route-short g l s t (b .vertices-most) (k .long) hs ht r in omega (arith, z, k .short, b .longest-most))
 runs-lit b k hs ht long (none d) p = absurd (d p)
@@ -86,8 +84,9 @@ module _ (h : Header) (s t : ℕ) (l : List ℕ) (m : Memory) where
     route-lit =
         let (a, e) = search-allowed in
         let (_, o) = edge-memory (h .vertices) (m .edges) e in
-        rw none (lit-by (routeOf graph l s t) (a .keyed .long)
-        (route-of graph l s t (a .bounds .vertices-most) (a .keyed .long) (o .sorted) (a .start-vertex) (a .destination-vertex)) m)
+        rw none (lit-by (a .keyed .long)
+        (route-of graph l s t (a .bounds .vertices-most) (a .keyed .long) (o .sorted) (a .start-vertex) (a .destination-vertex))
+        (lighting-case (routeOf graph l s t) m))
 
   pub route-refuses : {n : ℕ} → searchRefusal h s t l m ≡ suc n → routeCall h s t l m .reply ≡ Refused (suc n)
   unfolding routeCall

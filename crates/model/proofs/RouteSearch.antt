@@ -241,8 +241,8 @@ module _ (g : Graph) (l : List ℕ) (s : ℕ) (small : g .vertices ≤ mostVerti
 
 -- the route, or no edges where no walk runs the pattern
 pub data RoutedBy (g : Graph) (l : List ℕ) (s t : ℕ) : List ℕ → Type 0 where
-  lit : {es : List ℕ} → Route g l s t es → RoutedBy g l s t es
-  dark : (Runs g l s t → ⊥) → RoutedBy g l s t []
+  is-route : {es : List ℕ} → Route g l s t es → RoutedBy g l s t es
+  no-route : ¬ Runs g l s t → RoutedBy g l s t []
 
 module _ (g : Graph) (l : List ℕ) (s t : ℕ) (small : g .vertices ≤ mostVertices) (full : 1 ≤ length l) (rises : Rising (g .edges)) (hs : s < g .vertices) (ht : t < g .vertices) where
   -- where all is looked at, what is met is what a walk runs to
@@ -262,31 +262,31 @@ module _ (g : Graph) (l : List ℕ) (s t : ℕ) (small : g .vertices ≤ mostVer
       whole = searches g l s small full rises (suc (length (states g l))) [] (startNode s ∷ []) (states g l) (starts g l s small full rises) (omega arith)
 
       go : {es : List ℕ} → PicksNode g l s small full rises (state t 0) nodes es → RoutedBy g l s t es
-      go (met m) = lit (met-route g l s t small full hs ht (whole .searched [] .firsts) m)
-      go (unmet f) = dark (λ r. f (whole-met whole r))
+      go (met m) = is-route (met-route g l s t small full hs ht (whole .searched [] .firsts) m)
+      go (unmet f) = no-route (λ r. f (whole-met whole r))
 
   -- there is a route where a walk runs the pattern, and there alone
   pub route-iff : ((es : List ℕ) × Route g l s t es) ↔ Runs g l s t
   route-iff = (λ h. candidate-runs (h .1 .runs), λ r. go r route-of)
     where
       go : {es : List ℕ} → Runs g l s t → RoutedBy g l s t es → (es : List ℕ) × Route g l s t es
-      go {es} r (lit h) = (es, h)
-      go r (dark d) = absurd (d r)
+      go {es} r (is-route h) = (es, h)
+      go r (no-route d) = absurd (d r)
 
   -- and it is this one
   pub route-is : {es : List ℕ} → Route g l s t es → routeOf g l s t ≡ es
   route-is {es} h = go route-of
     where
       go : {fs : List ℕ} → RoutedBy g l s t fs → fs ≡ es
-      go (lit k) = route-unique k h
-      go (dark d) = absurd (d (candidate-runs (h .runs)))
+      go (is-route k) = route-unique k h
+      go (no-route d) = absurd (d (candidate-runs (h .runs)))
 
   pub route-none : (Runs g l s t → ⊥) → routeOf g l s t ≡ []
   route-none d = go route-of
     where
       go : {fs : List ℕ} → RoutedBy g l s t fs → fs ≡ []
-      go (lit k) = absurd (d (candidate-runs (k .runs)))
-      go (dark d) = refl
+      go (is-route k) = absurd (d (candidate-runs (k .runs)))
+      go (no-route d) = refl
 
 -- the longest pattern plays no part
 module _ (vertices : ℕ) (edges l : List ℕ) (j k : ℕ) where

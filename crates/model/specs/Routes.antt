@@ -1,4 +1,4 @@
--- The route to light (document 02, Three): which walk it is, and the replies of its call.
+-- The route to light (document 02, Three): which walk it is (a shortest one, and of these the lexicographically first), and the replies of its call.
 use mathlib.Core.Path.{_≡_}
 use mathlib.Core.List.{List, [], _∷_}
 use Prim.Native.Nat.{ℕ, suc, _≤_, _<_}
@@ -17,7 +17,7 @@ pub record Candidate (g : Graph) (l : List ℕ) (s t : ℕ) (es : List ℕ) : Ty
   pub more : ℕ
   pub walk : Walked g s (times (suc more) l) es t
 
--- of two lists of one length the first is no later, "compared leg by leg from the start"
+-- of two lists of one length the first is no later, "compared leg by leg from the start" (lexicographic order)
 infix 50 _⊑_
 pub data _⊑_ : List ℕ → List ℕ → Type 0 where
   both : [] ⊑ []

@@ -1,35 +1,32 @@
 -- What is lit, as the call has it: for the route's edges, and for the walk back from a place.
 use mathlib.Core.Path.{_≡_, refl, sym, ap, _∙_, subst}
-use mathlib.Core.List.{List, [], _∷_, _++_, reverse}
+use mathlib.Core.List.{List, [], _++_, reverse}
 use Prim.Native.Nat.{ℕ, _≤_, _<_}
 use native.Mathlib.Decide.{ℕ-discrete}
 use native.Mathlib.Omega.{arith}
 use lib.ListN.{length, drop, length-reverse}
+use Rattle.model.specs.Routes.{Yes as RoutedYes}
 use Rattle.model.specs.Computed.Edges.{bare}
 use Rattle.model.specs.Computed.Routes.{routeOf}
 use Rattle.model.specs.declared.Refusal.the-variants.{WalkMemory}
 use Rattle.model.specs.declared.RouteReply.{RouteReply}
 use Rattle.model.specs.declared.RouteReply.the-variants.{Yes, No, Refused}
-use Rattle.model.proofs.Tests.{test-true, test-false, test-le}
 use Rattle.model.proofs.RouteSearch.{route-is, route-none}
-use Rattle.calls.specs.Route.{lighting}
+use Rattle.calls.proofs.Route.{lighting-none, lighting-yes, lighting-short}
 use Rattle.level_search.specs.Run.{Searchable}
 use Rattle.route.specs.Run.{Chain, Traced, Linked, CountsLinks, WritesWalk, Lights, LightsAt}
 use Rattle.route.proofs.Tracing.{chain-some}
 
-pub lights-none : (walk : List ℕ) → Lights [] walk walk No
-unfolding lighting
-lights-none walk = record { is = λ m e. (refl, sym e) }
+lights-none : (walk : List ℕ) → Lights [] walk walk No
+lights-none walk = record { is = λ m e. rw (lighting-none m) (refl, sym e) }
 
 lights-short : (es walk : List ℕ) → length walk < length es → Lights es walk walk (Refused WalkMemory)
-unfolding lighting
-lights-short [] walk h = absurd (omega arith)
-lights-short (x ∷ es) walk h = record { is = λ m e. rw (e, test-false (test-le (length (x ∷ es)) (length walk)) (λ k. omega arith)) (refl, refl) }
+lights-short es walk h = record { is = λ m e. rw (lighting-short es m (omega (arith, ap length e))) (refl, sym e) }
 
 lights-yes : (es walk : List ℕ) {n : ℕ} → n ≡ length es → 1 ≤ n → n ≤ length walk → Lights es walk (es ++ drop (length es) walk) (Yes n)
-unfolding lighting
-lights-yes [] walk e l h = absurd (omega arith)
-lights-yes (x ∷ es) walk e l h = record { is = λ m d. rw (d, test-true (test-le (length (x ∷ es)) (length walk)) (omega arith), e) (refl, refl) }
+lights-yes es walk e some h = record {
+  is = λ m d. rw (lighting-yes es m (omega arith) (omega (arith, ap length d))) (ap RoutedYes e, ap (λ (l : List ℕ). es ++ drop (length es) l) (sym d));
+}
 
 -- ---- the walk back from a place
 

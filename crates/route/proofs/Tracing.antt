@@ -6,13 +6,13 @@ use native.Mathlib.Decide.{ℕ-discrete}
 use native.Mathlib.Omega.{arith}
 use lib.ListN.{length, set, drop, length-set}
 use lib.Seq.{getD-set-same, drop-cons, drop-set-lt}
-use Rattle.route.specs.Work.{queuedNumber, queuedAt, beforeAt, edgeAt}
+use Rattle.route.specs.Work.{queuedNumber, queuedAt, beforeAt, edgeInto}
 use Rattle.route.specs.Run.{Chain, done, link, Linked, CountsLinks, WritesWalk}
 
 -- one link of it
 pub record Linking (w : List ℕ) (at : ℕ) (p : List ℕ) : Type 0 where
   pub rest : List ℕ
-  pub is : p ≡ edgeAt w at ∷ rest
+  pub is : p ≡ edgeInto w at ∷ rest
   pub chain : Chain w (beforeAt w at) rest
   pub earlier : beforeAt w at < at
 
@@ -20,7 +20,7 @@ pub linking : {w : List ℕ} {at : ℕ} {p : List ℕ} → Chain w at p → ¬ (
 linking done d = absurd (d refl)
 linking {w} (link {k = k} {before = m} {edge = x} {p = p} a b c e f) d =
     let u : beforeAt w k ≡ m = omega arith in
-    let v : edgeAt w k ≡ x = omega arith in
+    let v : edgeInto w k ≡ x = omega arith in
     record { rest = p; is = ap (λ (z : ℕ). z ∷ p) (sym v); chain = subst (λ (z : ℕ). Chain w z p) (sym u) f; earlier = omega arith }
 
 -- there is one walk back
@@ -91,10 +91,10 @@ writing-start {walk = walk} h k f =
     }
 
 pub writing-more : {w : List ℕ} {place at i : ℕ} {walk₀ walk : List ℕ} → WritingWalk w place at i walk₀ walk → 0 < i
-    → WritingWalk w place (beforeAt w at) (i - 1) walk₀ (set walk (i - 1) (edgeAt w at))
+    → WritingWalk w place (beforeAt w at) (i - 1) walk₀ (set walk (i - 1) (edgeInto w at))
 writing-more {w} {place} {at} {i} {walk₀} {walk} c h =
     let l = linking (c .chain) (λ e. omega (arith, chain-none (c .chain) e, c .count)) in
-    let long = length-set walk (i - 1) (edgeAt w at) in
+    let long = length-set walk (i - 1) (edgeInto w at) in
     record {
       rest = l .rest;
       chain = l .chain;
@@ -108,12 +108,12 @@ writing-more {w} {place} {at} {i} {walk₀} {walk} c h =
     inside : i - 1 < length walk
     inside = omega (arith, c .fits)
 
-    tail : drop (i - 1) (set walk (i - 1) (edgeAt w at)) ≡ edgeAt w at ∷ drop i walk
+    tail : drop (i - 1) (set walk (i - 1) (edgeInto w at)) ≡ edgeInto w at ∷ drop i walk
     tail =
         let next : suc (i - 1) ≡ i = omega arith in
-        drop-cons (set walk (i - 1) (edgeAt w at)) (i - 1) 0 (omega (arith, inside, length-set walk (i - 1) (edgeAt w at)))
-        ∙ ap₂ _∷_ (getD-set-same walk (i - 1) (edgeAt w at) 0 inside)
-        (drop-set-lt (suc (i - 1)) walk (i - 1) (edgeAt w at) (omega arith) ∙ ap (λ (m : ℕ). drop m walk) next)
+        drop-cons (set walk (i - 1) (edgeInto w at)) (i - 1) 0 (omega (arith, inside, length-set walk (i - 1) (edgeInto w at)))
+        ∙ ap₂ _∷_ (getD-set-same walk (i - 1) (edgeInto w at) 0 inside)
+        (drop-set-lt (suc (i - 1)) walk (i - 1) (edgeInto w at) (omega arith) ∙ ap (λ (m : ℕ). drop m walk) next)
 
 pub writing-end : {w : List ℕ} {place at i : ℕ} {walk₀ walk : List ℕ} → WritingWalk w place at i walk₀ walk → i ≡ 0 → WritesWalk w place walk₀ walk
 writing-end {w} {place} {at} {i} {walk₀} {walk} c e = record { is = λ p d. go (c .rest) (c .count ∙ e) (c .same p d) ∙ reverseAux-eq p (drop (length p) walk₀) }

@@ -33,8 +33,8 @@ beforeAt w k = queuedAt w k / beforeUnit
 abbrev pub stateAt : List ℕ → ℕ → ℕ
 stateAt w k = queuedAt w k / stateUnit % (beforeUnit / stateUnit)
 
-abbrev pub edgeAt : List ℕ → ℕ → ℕ
-edgeAt w k = queuedAt w k % stateUnit
+abbrev pub edgeInto : List ℕ → ℕ → ℕ
+edgeInto w k = queuedAt w k % stateUnit
 
 -- ---- work memory holds nodes
 

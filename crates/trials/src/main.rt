@@ -38,6 +38,15 @@ fn read_a(edges: &mut [u32], index: &mut [u64]) -> u32 {
     answer_number(answer)
 }
 
+// Layout A from its card: its record, with leg and index memory filled.
+fn layout_a(edges: &mut [u32], index: &mut [u64]) -> Header {
+    read_a(edges, index);
+    Header {
+        vertices: 3,
+        longest: 2,
+    }
+}
+
 fn open(vertices: u32, longest: u32) -> u32 {
     let mut edges = [0u32; 1];
     let mut index = [0u64; 1];
@@ -55,11 +64,7 @@ fn ask_a(start: u32, destination: u32, pattern: &[u8]) -> u32 {
     let mut edges = [0u32; 3];
     let mut index = [0u64; 5];
     let mut work = [0u64; 4096];
-    read_a(&mut edges, &mut index);
-    let header = Header {
-        vertices: 3,
-        longest: 2,
-    };
+    let header = layout_a(&mut edges, &mut index);
     let reply = store::query(
         header,
         start,
@@ -91,11 +96,7 @@ fn light_a(start: u32, destination: u32, pattern: &[u8], walk: &mut [u32]) -> u3
     let mut edges = [0u32; 3];
     let mut index = [0u64; 5];
     let mut work = [0u64; 4096];
-    read_a(&mut edges, &mut index);
-    let header = Header {
-        vertices: 3,
-        longest: 2,
-    };
+    let header = layout_a(&mut edges, &mut index);
     let reply = store::route(header, start, destination, pattern, &edges, walk, &mut work);
     match reply {
         RouteReply::Yes(legs) => legs,
@@ -108,11 +109,7 @@ fn lay_in_a(from: u32, label: u32, to: u32) -> u32 {
     let mut edges = [0u32; 4];
     let mut index = [0u64; 8];
     let mut work = [0u64; 4104];
-    read_a(&mut edges, &mut index);
-    let header = Header {
-        vertices: 3,
-        longest: 2,
-    };
+    let header = layout_a(&mut edges, &mut index);
     let changed = header.insert(from, label, to, &mut edges, &mut index, &mut work);
     let answer = changed.answer;
     answer_number(answer)
