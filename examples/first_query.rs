@@ -51,9 +51,12 @@ extern "C" {
 
 const YES: u32 = 100;
 
+/// How many numbers a record has: vertices, longest pattern, and how many edges have label 1, label 2, .. label 8.
+const RECORD_N: usize = 10;
+
 /// A layout's memory. Each call lends the library its slices, whole.
 struct Layout {
-    record: [u32; 2],
+    record: [u32; RECORD_N],
     edges: [u32; 16],
     index: [u64; 64],
     work: [u64; 4096 + 64],
@@ -65,7 +68,7 @@ impl Layout {
         unsafe {
             rlc_open(
                 self.record.as_mut_ptr(),
-                2,
+                RECORD_N,
                 edges.as_mut_ptr(),
                 edges.len(),
                 index.as_mut_ptr(),
@@ -79,8 +82,8 @@ impl Layout {
         let record = self.record.as_mut_ptr();
         unsafe {
             #[rustfmt::skip]
-            let reply = rlc_insert(record, 2, from, label, to, edges.as_mut_ptr(), edges.len(), index.as_mut_ptr(), index.len(),
-                                   work.as_mut_ptr(), work.len());
+            let reply = rlc_insert(record, RECORD_N, from, label, to, edges.as_mut_ptr(), edges.len(), index.as_mut_ptr(),
+                                   index.len(), work.as_mut_ptr(), work.len());
             reply
         }
     }
@@ -89,8 +92,8 @@ impl Layout {
         let (record, edges, index, work) = (&self.record, &self.edges, &self.index, &mut self.work);
         #[rustfmt::skip]
         let reply = unsafe {
-            rlc_query(record.as_ptr(), 2, start, destination, pattern.as_ptr(), pattern.len(), edges.as_ptr(), edges.len(),
-                      index.as_ptr(), index.len(), work.as_mut_ptr(), work.len())
+            rlc_query(record.as_ptr(), RECORD_N, start, destination, pattern.as_ptr(), pattern.len(), edges.as_ptr(),
+                      edges.len(), index.as_ptr(), index.len(), work.as_mut_ptr(), work.len())
         };
         reply
     }
@@ -100,7 +103,7 @@ impl Layout {
         unsafe {
             rlc_write_card(
                 self.record.as_ptr(),
-                2,
+                RECORD_N,
                 edges.as_ptr(),
                 edges.len(),
                 output.as_mut_ptr(),
@@ -120,7 +123,7 @@ fn yes_or_no(reply: u32) -> &'static str {
 
 fn main() {
     let mut layout = Layout {
-        record: [3, 2],
+        record: [3, 2, 0, 0, 0, 0, 0, 0, 0, 0],
         edges: [0; 16],
         index: [0; 64],
         work: [0; 4096 + 64],
@@ -129,10 +132,14 @@ fn main() {
     for (from, label, to) in [(0, 1, 1), (1, 1, 2), (1, 2, 0)] {
         println!("insert {}", layout.insert(from, label, to));
     }
+    let totals: Vec<String> = layout.record[2..].iter().map(u32::to_string).collect();
+    println!("edges by label: {}", totals.join(" "));
     println!("0 to 0 by 1,2: {}", yes_or_no(layout.query(0, 0, &[1, 2])));
     println!("0 to 0 by 1: {}", yes_or_no(layout.query(0, 0, &[1])));
     // An even number of edges.
     println!("0 to 2 by 1,1: {}", yes_or_no(layout.query(0, 2, &[1, 1])));
+    // A label that no edge has.
+    println!("0 to 2 by 3: {}", yes_or_no(layout.query(0, 2, &[3])));
     println!("0 to 3 by 1: refused {}", layout.query(0, 3, &[1]));
     let mut card = [0; 64];
     let length = layout.card(&mut card) as usize;

@@ -31,7 +31,7 @@ struct question {
     size_t labels;
 };
 
-static uint32_t record[2], edges[EDGES], walk[WALK];
+static uint32_t record[RLC_RECORD_N], edges[EDGES], walk[WALK];
 static uint64_t index_memory[INDEX], work[WORK];
 static uint8_t card[CARD + 1]; /* a byte more than the longest, so that a file too long is refused and not cut */
 
@@ -149,12 +149,12 @@ int main(int argc, char **argv) {
         return NO_INPUT;
     }
 
-    uint32_t answer = rlc_read_card(record, 2, card, length, edges, EDGES, index_memory, INDEX, work, WORK);
+    uint32_t answer = rlc_read_card(record, RLC_RECORD_N, card, length, edges, EDGES, index_memory, INDEX, work, WORK);
     if (answer != RLC_ACCEPTED)
         return refused(answer);
 
-    uint64_t reply = rlc_route(record, 2, question.start, question.destination, question.pattern, question.labels, edges, EDGES,
-                               walk, WALK, work, WORK);
+    uint64_t reply = rlc_route(record, RLC_RECORD_N, question.start, question.destination, question.pattern, question.labels,
+                               edges, EDGES, walk, WALK, work, WORK);
     answer = (uint32_t)(reply >> 32);
     if (answer == RLC_NO) {
         fprintf(stderr, "no route\n");

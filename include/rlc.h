@@ -8,7 +8,11 @@
  * Everything the library works on is lent by its caller with each call. Nothing is kept between calls, there
  * is no heap and no global state, and every call returns.
  *
- *   record   2 numbers: vertices (1 to 256), longest pattern k (1 to 4)
+ *   record   RLC_RECORD_N numbers: vertices (1 to 256), longest pattern k (1 to 4), then 8 totals: how many edges have
+ *            label 1, label 2, .. label 8. Totals let a query by a label that the layout lacks be told no at once. Each
+ *            accepted open, insert, remove and read card counts them anew and hands them back in the record, whatever
+ *            they were: you need not fill them in before a layout is opened or a card is read, and should not change
+ *            them afterwards. No refusal depends on them, and only rlc_query looks at them.
  *   edges    edge memory, 0 to 1,024 slots: one edge a slot, from * 4096 + label * 256 + to, strictly rising, then zeros
  *   index    index memory, any number of slots: one entry a slot, strictly rising, then zeros
  *   work     at least 4,096 numbers; if an index is built (insert, remove, read card), one more for each index
@@ -21,7 +25,8 @@
  * another thread or an interrupt while the call runs. Stack use, as measured on x86-64: below 24 KiB for insert,
  * remove and read card, 20 KiB for a query, 6 KiB for the minimum repeat from the table, 4 KiB for the others.
  *
- * A refused call changes nothing that was lent, except that refusals 13 and 18 zero work memory.
+ * A refused call changes nothing that was lent, the record included, except that refusals 13 and 18 zero work
+ * memory.
  */
 #ifndef RLC_H
 #define RLC_H
@@ -33,13 +38,16 @@
 extern "C" {
 #endif
 
+/* How many numbers a record has. */
+#define RLC_RECORD_N 10
+
 /* Replies. */
 enum {
     RLC_ACCEPTED = 0, /* of open, insert, remove, read card */
     RLC_NO = 0,       /* of query, search and route */
     RLC_YES = 100,
     RLC_SPENT = 101,   /* of search: neither yes nor no within the level limit */
-    RLC_RECORD = 255   /* the record lent does not have 2 numbers */
+    RLC_RECORD = 255   /* the record lent does not have RLC_RECORD_N numbers; nothing is touched */
 };
 
 /* Refusals. The first that applies, in the order given at each call, is returned. */
@@ -65,7 +73,7 @@ enum {
 };
 
 /* Opens an empty layout with the record's vertices and k: zeroes edge and index memory. Refusals 1 2 3.
- * Returns 0 or the refusal. The record handed back is the one given. */
+ * Returns 0 or the refusal. The totals handed back are zero. */
 uint32_t rlc_open(uint32_t *record, size_t record_n, uint32_t *edges, size_t edges_n, uint64_t *index, size_t index_n);
 
 /* Inserts (lays) an edge and builds the index of the edges that then stand. Refusals 1 2 3 4 5 6 7 9 13.
@@ -77,10 +85,12 @@ uint32_t rlc_insert(uint32_t *record, size_t record_n, uint32_t from, uint32_t l
 uint32_t rlc_remove(uint32_t *record, size_t record_n, uint32_t from, uint32_t label, uint32_t to, uint32_t *edges, size_t edges_n,
                     uint64_t *index, size_t index_n, uint64_t *work, size_t work_n);
 
-/* Asks whether a walk from start to destination runs the pattern. Refusals 1 2 10 11 12, and then, only for a
- * pattern that repeats itself, 3 4. Returns 100 yes, 0 no, else the refusal. Whether a query needs edge and work
- * memory depends on its pattern (rlc_times_written tells which it is):
+/* Asks whether a walk from start to destination runs the pattern. Refusals 1 2 10 11, then, unless a label of the
+ * pattern has total 0 in the record, 12, and then, only for a pattern that repeats itself, 3 4. Returns 100 yes, 0 no,
+ * else the refusal. What a query looks at depends on its pattern (rlc_times_written tells how often it was written):
  *
+ * - With a label whose total in the record is 0: no. Edges, index and work are not looked at and stay as they are. On
+ *   the record that the last accepted change left the reply is right. The other queries:
  * - Written once, as 1 or 1,2 or 1,2,1: the index replies. Edges and work are not looked at and stay as they are;
  *   both may have length 0. On the record and index memory that the last accepted change left the reply is right.
  * - Repeating itself, as 1,1 or 1,2,1,2: the index has no such pattern, so the call costs a search of the edges
@@ -93,7 +103,7 @@ uint32_t rlc_query(const uint32_t *record, size_t record_n, uint32_t start, uint
 /* Searches level by level, without the index, for a walk that runs the pattern as keyed; at most level_limit
  * levels are built, and 1,025 always suffice.
  * Refusals 1 2 3 4 10 11. Returns reply * 2^32 + levels built: reply 100 yes, 0 no, 101 spent, else the refusal
- * with levels 0. A record without 2 numbers gives 255 * 2^32. */
+ * with levels 0. A record of another length gives 255 * 2^32. */
 uint64_t rlc_search(const uint32_t *record, size_t record_n, uint32_t start, uint32_t destination, const uint8_t *pattern, size_t pattern_n,
                     uint32_t level_limit, const uint32_t *edges, size_t edges_n, uint64_t *work, size_t work_n);
 
@@ -101,12 +111,13 @@ uint64_t rlc_search(const uint32_t *record, size_t record_n, uint32_t start, uin
  * numbers, compared one after another from the start, come first. Its edges are written to the front of walk memory
  * in running order, and nothing behind them is touched; 1,024 slots always suffice.
  * Refusals 1 2 3 4 10 11, and last 18. Returns reply * 2^32 + number of edges: reply 100 with the edges, 0 no (and
- * walk memory is untouched), else the refusal with 0. A record without 2 numbers gives 255 * 2^32. */
+ * walk memory is untouched), else the refusal with 0. A record of another length gives 255 * 2^32. */
 uint64_t rlc_route(const uint32_t *record, size_t record_n, uint32_t start, uint32_t destination, const uint8_t *pattern, size_t pattern_n,
                    const uint32_t *edges, size_t edges_n, uint32_t *walk, size_t walk_n, uint64_t *work, size_t work_n);
 
 /* Reads a card: edge and index memory are then those of a fresh layout that received the card's edges, and the
- * card's vertices and k are written to the record. Refusals 14 15 2 16 3 9 4 13; the record is then untouched.
+ * card's vertices and k, and the totals of its edges, are written to the record. Refusals 14 15 2 16 3 9 4 13; the
+ * record is then untouched.
  * Returns 0 or the refusal. */
 uint32_t rlc_read_card(uint32_t *record, size_t record_n, const uint8_t *card, size_t card_n, uint32_t *edges, size_t edges_n,
                        uint64_t *index, size_t index_n, uint64_t *work, size_t work_n);

@@ -18,9 +18,12 @@ extern "C" {
 
 pub const YES: u64 = 100;
 
+/// The numbers of a record: vertices, longest pattern, and eight totals, which each change counts anew.
+const RECORD_N: usize = 10;
+
 /// A layout's memory, as a caller lends it.
 pub struct Lent {
-    pub record: [u32; 2],
+    record: [u32; RECORD_N],
     pub edges: Vec<u32>,
     pub index: Vec<u64>,
     work: Vec<u64>,
@@ -31,13 +34,28 @@ pub type Change = unsafe extern "C" fn(*mut u32, usize, u32, u32, u32, *mut u32,
 impl Lent {
     pub fn new(longest: u32, edges: &[u32], slots: usize) -> Lent {
         let index = vec![u64::MAX; slots];
-        Lent { record: [VERTICES, longest], edges: edges.to_vec(), index, work: vec![u64::MAX; 4096 + slots] }
+        let mut record = [0; RECORD_N];
+        record[..2].copy_from_slice(&[VERTICES, longest]);
+        Lent { record, edges: edges.to_vec(), index, work: vec![u64::MAX; 4096 + slots] }
+    }
+
+    pub fn longest(&self) -> u32 {
+        self.record[1]
+    }
+
+    /// How many edges have the label, as the last change counted.
+    pub fn total(&self, label: u8) -> u32 {
+        self.record[1 + label as usize]
+    }
+
+    pub fn set_total(&mut self, label: u8, total: u32) {
+        self.record[1 + label as usize] = total;
     }
 
     pub fn change(&mut self, call: Change, x: u32) -> u32 {
         let (m, slots, w) = (self.edges.len(), self.index.len(), self.work.len());
         let (edges, index, work) = (self.edges.as_mut_ptr(), self.index.as_mut_ptr(), self.work.as_mut_ptr());
-        unsafe { call(self.record.as_mut_ptr(), 2, x / 4096, x / 256 % 16, x % 256, edges, m, index, slots, work, w) }
+        unsafe { call(self.record.as_mut_ptr(), RECORD_N, x / 4096, x / 256 % 16, x % 256, edges, m, index, slots, work, w) }
     }
 
     /// The query with the least work memory.
@@ -49,7 +67,7 @@ impl Lent {
     fn query_with(&mut self, s: u32, t: u32, pattern: &[u8], m: usize) -> u32 {
         let (record, p, n) = (self.record.as_ptr(), pattern.as_ptr(), pattern.len());
         let (edges, index, slots, work) = (self.edges.as_ptr(), self.index.as_ptr(), self.index.len(), self.work.as_mut_ptr());
-        unsafe { rlc_query(record, 2, s, t, p, n, edges, m, index, slots, work, 4096) }
+        unsafe { rlc_query(record, RECORD_N, s, t, p, n, edges, m, index, slots, work, 4096) }
     }
 
     /// What a query by a pattern that repeats itself costs up to check 12 and no further: with 1,025 edge slots, which are not looked at, it is
@@ -62,14 +80,14 @@ impl Lent {
     pub fn search(&mut self, s: u32, t: u32, pattern: &[u8]) -> u64 {
         let (record, p) = (self.record.as_ptr(), pattern.len());
         let (edges, m, work) = (self.edges.as_ptr(), self.edges.len(), self.work.as_mut_ptr());
-        unsafe { rlc_search(record, 2, s, t, pattern.as_ptr(), p, 1025, edges, m, work, 4096) }
+        unsafe { rlc_search(record, RECORD_N, s, t, pattern.as_ptr(), p, 1025, edges, m, work, 4096) }
     }
 
     /// The route with the least work memory.
     pub fn route(&mut self, s: u32, t: u32, pattern: &[u8], walk: &mut [u32]) -> u64 {
         let (record, p, n) = (self.record.as_ptr(), pattern.as_ptr(), pattern.len());
         let (edges, m, work) = (self.edges.as_ptr(), self.edges.len(), self.work.as_mut_ptr());
-        unsafe { rlc_route(record, 2, s, t, p, n, edges, m, walk.as_mut_ptr(), walk.len(), work, 4096) }
+        unsafe { rlc_route(record, RECORD_N, s, t, p, n, edges, m, walk.as_mut_ptr(), walk.len(), work, 4096) }
     }
 }
 

@@ -4,23 +4,24 @@
 use crate::calls::{card_of, Check, Memory, EDGES};
 use crate::compare::{Tester, SPENT, YES};
 use crate::gen::{self, Layout};
-use crate::lent::Lent;
 use crate::library::*;
+use crate::record::{Record, RECORD_N};
+use crate::records;
 use crate::reference::*;
 use crate::routes;
-use crate::trials::{CARD_A, SLOTS_A};
+use crate::trials::{CARD_A, LAYOUT_A, SLOTS_A};
 
 pub fn run(t: &mut Tester) {
     t.part = "bounds";
     headers(t);
     small_memories(t);
     cards(t);
+    damaged_cards(t);
     largest(t);
     longest_search(t);
     longest_again(t);
     query_memories(t);
     no_memory(t);
-    record_lengths(t);
     joins(t);
     aliases(t);
 }
@@ -36,8 +37,12 @@ fn headers(t: &mut Tester) {
                     _ if slots > 1024 => 3,
                     _ => 0,
                 };
-                let reply = t.open([vertices, longest], &mut memory);
+                let mut record = records::any(&mut t.rng, [vertices, longest], &[]);
+                let given = record;
+                let reply = t.open(&mut record, &mut memory);
                 t.expect("an opening", reply, expected);
+                let left = if expected == 0 { Record::counted([vertices, longest], &[]) } else { given };
+                t.expect("its record, totals 0 unless refused", record, left);
             }
         }
     }
@@ -48,23 +53,33 @@ fn small_memories(t: &mut Tester) {
     for edges in 0..=5 {
         for index in 0..=8 {
             for work in [0, 1, 4095, 4095 + index, 4096 + index, 4097 + index] {
-                let mut memory = gen::noise(&mut t.rng, edges, index, work);
-                let record = t.read_card(&CARD_A, &mut memory).1.unwrap_or([3, 2]);
-                memory.work = t.rng.words(work);
-                t.change(true, record, (2, 1, 0), &mut memory);
-                memory.work = t.rng.words(work);
-                t.change(false, record, (0, 1, 1), &mut memory);
-                t.open([3, 2], &mut memory);
-                memory.work = t.rng.words(work);
-                t.change(true, record, (2, 1, 0), &mut memory);
-                for pattern in [vec![1], vec![1, 1]] {
-                    memory.work = t.rng.words(work);
-                    t.query(record, 2, 0, &pattern, &mut memory);
-                    memory.work = t.rng.words(work);
-                    t.search(record, &Check { start: 2, destination: 0, pattern, allowed: 3 }, &mut memory);
-                }
+                let memory = gen::noise(&mut t.rng, edges, index, work);
+                in_small(t, memory);
             }
         }
+    }
+}
+
+/// The record goes on from call to call, with the totals of A's card or ones that lie. The question is put with it, and
+/// with a total for label 1 that is not 0.
+fn in_small(t: &mut Tester, mut memory: Memory) {
+    let work = memory.work.len();
+    let mut record = records::any(&mut t.rng, [3, 2], &LAYOUT_A);
+    t.read_card_into(&mut record, &CARD_A, &mut memory);
+    for (insertion, edge) in [(true, (2, 1, 0)), (false, (0, 1, 1))] {
+        memory.work = t.rng.words(work);
+        t.change(insertion, &mut record, edge, &mut memory);
+    }
+    t.open(&mut record, &mut memory);
+    memory.work = t.rng.words(work);
+    t.change(true, &mut record, (2, 1, 0), &mut memory);
+    for pattern in [vec![1], vec![1, 1]] {
+        for record in [record, records::having(&mut t.rng, [3, 2], &[], &[1])] {
+            memory.work = t.rng.words(work);
+            t.query(record, 2, 0, &pattern, &mut memory);
+        }
+        memory.work = t.rng.words(work);
+        t.search(record, &Check { start: 2, destination: 0, pattern, allowed: 3 }, &mut memory);
     }
 }
 
@@ -87,7 +102,8 @@ fn cards(t: &mut Tester) {
         if expected == 0 {
             for room in [card.len() - 1, card.len(), 4096] {
                 let mut output = t.rng.bytes(room);
-                t.write_card([256, 1], &memory.edges, &mut output);
+                let record = records::any(&mut t.rng, [256, 1], &edges);
+                t.write_card(record, &memory.edges, &mut output);
             }
         }
         if count == 1362 {
@@ -98,7 +114,10 @@ fn cards(t: &mut Tester) {
             t.expect("a card of 4,096 bytes", reply, 16);
         }
     }
-    // Card A cut off everywhere, and with every byte changed.
+}
+
+/// Card A cut off everywhere, and with every byte changed.
+fn damaged_cards(t: &mut Tester) {
     for length in 0..CARD_A.len() {
         let mut memory = gen::noise(&mut t.rng, 3, 5, 4101);
         t.read_card(&CARD_A[..length], &mut memory);
@@ -137,11 +156,12 @@ fn largest(t: &mut Tester) {
 }
 
 fn of_largest(t: &mut Tester, edges: &[Edge], memory: &mut Memory) {
+    let mut record = records::any(&mut t.rng, [256, 4], edges);
     let absent = (0..).map(|i| (255, 1, i)).find(|edge| !edges.contains(edge)).unwrap();
     memory.work = t.rng.words(memory.index.len() + 4096);
-    let reply = t.change(true, [256, 4], absent, memory);
+    let reply = t.change(true, &mut record, absent, memory);
     t.expect("an edge for which there is no slot", reply, 9);
-    let layout = Layout { record: [256, 4], labels: vec![1, 2] };
+    let layout = Layout { header: [256, 4], labels: vec![1, 2] };
     for _ in 0..300 {
         let (start, destination) = (t.rng.below(256) as u32, t.rng.below(256) as u32);
         let length = t.rng.from_to(1, 4);
@@ -151,19 +171,19 @@ fn of_largest(t: &mut Tester, edges: &[Edge], memory: &mut Memory) {
             let again = gen::repeating_pattern(&mut t.rng, &layout, length);
             for pattern in [&pattern, &again] {
                 memory.work = t.rng.words(4096);
-                t.query([256, 4], start, destination, pattern, memory);
+                t.query(Record::counted([256, 4], edges), start, destination, pattern, memory);
             }
         }
         let check = Check { start, destination, pattern, allowed: t.rng.pick(&[3, 1025]) };
         let mut lent = Memory { edges: memory.edges.clone(), index: vec![], work: t.rng.words(4096) };
-        t.search([256, 4], &check, &mut lent);
+        t.search(record, &check, &mut lent);
         if t.rng.one_in(4) {
             lent.work = t.rng.words(4096);
-            routes::ask_in(t, [256, 4], &check, &lent);
+            routes::ask_in(t, record, &check, &lent);
         }
     }
     memory.work = t.rng.words(memory.index.len() + 4096);
-    t.change(false, [256, 4], edges[500], memory);
+    t.change(false, &mut record, edges[500], memory);
 }
 
 /// A search through all 1,024 pairs of vertex and labels used, one to a level, and its route of as many edges.
@@ -175,14 +195,16 @@ fn longest_search(t: &mut Tester) {
     {
         memory.work = t.rng.words(4096);
         let check = Check { start: 7, destination: 7, pattern: vec![1, 2, 3, 4], allowed };
-        let reply = t.search([256, 4], &check, &mut memory);
+        let record = records::any(&mut t.rng, [256, 4], &edges);
+        let reply = t.search(record, &check, &mut memory);
         t.expect("the longest search", reply, expected);
     }
     for (slots, expected) in [(0, (18, 0)), (1023, (18, 0)), (1024, (YES, 1024)), (1025, (YES, 1024))] {
         memory.work = t.rng.words(4096);
         let check = Check { start: 7, destination: 7, pattern: vec![1, 2, 3, 4], allowed: 0 };
         let mut walk = t.rng.short_words(slots);
-        let reply = t.route([256, 4], &check, &mut memory, &mut walk);
+        let record = records::any(&mut t.rng, [256, 4], &edges);
+        let reply = t.route(record, &check, &mut memory, &mut walk);
         t.expect("the longest route", reply, expected);
         if reply.0 == YES {
             // All 1,024, from the first at vertex 7 on.
@@ -214,19 +236,20 @@ fn longest_again(t: &mut Tester) {
     ];
     for (edges, start, destination, pattern, expected) in asked {
         let mut memory = Memory { edges: gen::edge_memory(&edges, EDGES), ..gen::noise(&mut t.rng, 0, 0, 4096) };
-        let reply = t.query([256, 4], start, destination, &pattern, &mut memory);
+        let reply = t.query(Record::counted([256, 4], &edges), start, destination, &pattern, &mut memory);
         t.expect("a query of a pattern that goes round", reply, expected.0);
+        let record = records::any(&mut t.rng, [256, 4], &edges);
         let levels = expected.1;
         for (allowed, expected) in [(levels - 1, (SPENT, levels - 1)), (levels, expected), (1025, expected)] {
             memory.work = t.rng.words(4096);
             let check = Check { start, destination, pattern: pattern.clone(), allowed };
-            let reply = t.search([256, 4], &check, &mut memory);
+            let reply = t.search(record, &check, &mut memory);
             t.expect("a search for a pattern that goes round", reply, expected);
         }
         memory.work = t.rng.words(4096);
         let check = Check { start, destination, pattern, allowed: 0 };
         let mut walk = t.rng.short_words(EDGES);
-        let reply = t.route([256, 4], &check, &mut memory, &mut walk);
+        let reply = t.route(record, &check, &mut memory, &mut walk);
         t.expect("a route that goes round", reply, if expected.0 == YES { expected } else { (0, 0) });
     }
 }
@@ -244,18 +267,19 @@ fn query_memories(t: &mut Tester) {
     for (count, refused) in [(EDGES, false), (EDGES + 1, true)] {
         let edges = gen::many_edges(&mut t.rng, count);
         let mut memory = Memory { edges: gen::edge_memory(&edges, count), ..gen::noise(&mut t.rng, 0, 0, 4096) };
-        let reply = t.query([256, 2], 0, 1, &[1, 1], &mut memory);
+        let reply = t.query(Record::counted([256, 2], &edges), 0, 1, &[1, 1], &mut memory);
         t.expect("full edge memory", reply == 3, refused);
     }
 }
 
 /// The lengths matter for 1,1 and not for 1.
 fn in_memories(t: &mut Tester, slots: usize, index: usize, work: usize) {
-    let a = [(0, 1, 1), (1, 1, 2), (1, 2, 0)];
-    let mut memory = Memory { edges: gen::edge_memory(&a, slots), index: SLOTS_A.to_vec(), work: t.rng.words(work) };
+    let edges = gen::edge_memory(&LAYOUT_A, slots);
+    let mut memory = Memory { edges, index: SLOTS_A.to_vec(), work: t.rng.words(work) };
     memory.index.resize(index, 0);
     let found = memory.work.clone();
-    let reply = t.query([3, 2], 0, 2, &[1], &mut memory);
+    let record = Record::counted([3, 2], &LAYOUT_A);
+    let reply = t.query(record, 0, 2, &[1], &mut memory);
     t.expect("a pattern written once, in memory of any length", reply, YES);
     t.expect("work memory as found", memory.work == found, true);
     let refusal = match (slots, work) {
@@ -266,68 +290,32 @@ fn in_memories(t: &mut Tester, slots: usize, index: usize, work: usize) {
     let left = if refusal.is_some() { found.clone() } else { vec![0; work] };
     for (destination, answer) in [(2, YES), (1, 0)] {
         memory.work = found.clone();
-        let reply = t.query([3, 2], 0, destination, &[1, 1], &mut memory);
+        let reply = t.query(record, 0, destination, &[1, 1], &mut memory);
         t.expect("a pattern that repeats itself", reply, refusal.unwrap_or(answer));
         t.expect("work memory zero, or as found if refused", memory.work == left, true);
     }
 }
 
 /// No edge and work memory at all, as null pointers: enough for a pattern written once; 4 for one that repeats itself.
-/// No walk memory: enough for a no; 18 for a yes.
+/// No index memory either: enough for a label of total 0. No walk memory: enough for a no; 18 for a yes.
 fn no_memory(t: &mut Tester) {
-    let (record, pattern) = ([3, 2], [1, 1]);
+    let (record, pattern) = (Record::counted([3, 2], &LAYOUT_A).numbers(), [1, 1, 3, 3]);
     let (edges, work) = (std::ptr::null(), std::ptr::null_mut());
-    for (labels, expected) in [(1, YES), (2, 4)] {
+    let (r, index, none) = (record.as_ptr(), (SLOTS_A.as_ptr(), SLOTS_A.len()), (std::ptr::null(), 0));
+    for (first, labels, i, expected) in
+        [(0, 1, index, YES), (0, 2, index, 4), (0, 1, none, 0), (2, 1, none, 0), (2, 2, none, 0), (1, 2, none, 0)]
+    {
         t.calls += 1;
-        let (r, p, i) = (record.as_ptr(), pattern.as_ptr(), SLOTS_A.as_ptr());
-        let reply = unsafe { rlc_query(r, 2, 0, 2, p, labels, edges, 0, i, SLOTS_A.len(), work, 0) };
+        let p = pattern[first..].as_ptr();
+        let reply = unsafe { rlc_query(r, RECORD_N, 0, 2, p, labels, edges, 0, i.0, i.1, work, 0) };
         t.expect("a query without edge and work memory", reply, expected);
     }
     let (slots, mut work) = ([257, 4354, 4608], [0; 4096]);
     for (edges, count, expected) in [(slots.as_ptr(), 3, 18 << 32), (edges, 0, 0)] {
         t.calls += 1;
-        let (r, p, w) = (record.as_ptr(), pattern.as_ptr(), work.as_mut_ptr());
-        let reply = unsafe { rlc_route(r, 2, 0, 2, p, 1, edges, count, std::ptr::null_mut(), 0, w, 4096) };
+        let (p, w) = (pattern.as_ptr(), work.as_mut_ptr());
+        let reply = unsafe { rlc_route(r, RECORD_N, 0, 2, p, 1, edges, count, std::ptr::null_mut(), 0, w, 4096) };
         t.expect("a route without walk memory", reply, expected);
-    }
-}
-
-/// A record of another length than 2: 255, and nothing is touched.
-fn record_lengths(t: &mut Tester) {
-    for n in [0, 1, 3, 4, 100] {
-        let values: Vec<u32> = [3, 2].iter().copied().cycle().take(n).collect();
-        let mut record: Lent<u32> = Lent::new(&values, 77);
-        let mut edges: Lent<u32> = Lent::new(&[256 + 1, 0, 0], 78);
-        let mut index: Lent<u64> = Lent::new(&[9; 20], 79);
-        let mut work: Lent<u64> = Lent::new(&[5; 4116], 80);
-        let mut card: Lent<u8> = Lent::new(&CARD_A, 81);
-        let mut output: Lent<u8> = Lent::new(&[3; 30], 82);
-        let mut pattern: Lent<u8> = Lent::new(&[1, 1], 83);
-        let mut walk: Lent<u32> = Lent::new(&[6; 4], 84);
-        let wide = 255 << 32;
-        let (r, e, i, l) = (record.pointer(), edges.pointer(), index.pointer(), walk.pointer());
-        let (w, c, o, p) = (work.pointer(), card.pointer(), output.pointer(), pattern.pointer());
-        unsafe {
-            t.expect("open, 255", rlc_open(r, n, e, 3, i, 20), 255);
-            t.expect("insert, 255", rlc_insert(r, n, 1, 1, 2, e, 3, i, 20, w, 4116), 255);
-            t.expect("remove, 255", rlc_remove(r, n, 0, 1, 1, e, 3, i, 20, w, 4116), 255);
-            // By 1, and by 1,1, which repeats itself.
-            for labels in [1, 2] {
-                t.expect("query, 255", rlc_query(r, n, 0, 1, p, labels, e, 3, i, 20, w, 4116), 255);
-                t.expect("search, 255", rlc_search(r, n, 0, 1, p, labels, 5, e, 3, w, 4116), wide);
-                t.expect("route, 255", rlc_route(r, n, 0, 1, p, labels, e, 3, l, 4, w, 4116), wide);
-            }
-            t.expect("read_card, 255", rlc_read_card(r, n, c, 18, e, 3, i, 20, w, 4116), 255);
-            t.expect("write_card, 255", rlc_write_card(r, n, e, 3, o, 30), wide);
-        }
-        let untouched = record.content() == values && edges.content() == [257, 0, 0] && index.content() == [9; 20];
-        let rest = work.content() == [5; 4116] && walk.content() == [6; 4] && output.content() == [3; 30];
-        let read = card.content() == CARD_A && pattern.content() == [1, 1];
-        let guards = record.guards_hold() && edges.guards_hold() && index.guards_hold() && work.guards_hold();
-        let more = card.guards_hold() && output.guards_hold() && pattern.guards_hold() && walk.guards_hold();
-        t.expect("nothing touched after 255", untouched && rest && read && guards && more, true);
-        t.counts.other_records += 1;
-        t.calls += 11;
     }
 }
 
@@ -351,7 +339,8 @@ fn joins(t: &mut Tester) {
                 index.sort();
                 index.dedup();
                 let mut memory = Memory { index, ..Memory::default() };
-                let reply = t.query([256, 4], start, destination, &labels, &mut memory);
+                let record = records::having(&mut t.rng, [256, 4], &[], &labels);
+                let reply = t.query(record, start, destination, &labels, &mut memory);
                 t.expect("a yes where two entries meet", kept == 3 && reply != YES, false);
             }
         }
@@ -374,7 +363,8 @@ fn aliases(t: &mut Tester) {
         for insertion in [true, false] {
             let mut memory = gen::noise(&mut t.rng, 0, 60, 4156);
             memory.edges = gen::edge_memory(&edges, 5);
-            let reply = t.change(insertion, [256, 2], edge, &mut memory);
+            let mut record = records::any(&mut t.rng, [256, 2], &edges);
+            let reply = t.change(insertion, &mut record, edge, &mut memory);
             t.expect("an edge that is none", reply, expected);
         }
     }

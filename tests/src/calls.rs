@@ -5,20 +5,19 @@
 //! If an earlier condition applies, a later one is judged as far as it has a meaning: 7, 8, 9, 13, 17 and 18 if edge
 //! memory reads as rising edges of some layout, 13 by patterns of at most 2 labels (longer ones only add
 //! entries), 18 also by patterns of too many labels, and a query's 3 and 4 if its pattern is labels that repeat
-//! themselves, also too many of them.
+//! themselves, also too many of them, and its 12, 3 and 4 unless a label of the pattern has total 0.
 
+use crate::record::{Header, Record};
 use crate::reference::*;
 use crate::shortest::{self, Walk};
 use std::collections::BTreeSet;
 
-/// Vertices and longest pattern: document 01's record.
-pub type Record = [u32; 2];
 pub type Refusals = Vec<u32>;
 
 pub const WORK: usize = 4096;
 pub const EDGES: usize = 1024;
 
-#[derive(Clone, Debug, Default)]
+#[derive(Clone, Debug, Default, PartialEq)]
 pub struct Memory {
     pub edges: Vec<u32>,
     pub index: Vec<u64>,
@@ -29,8 +28,8 @@ fn applying(conditions: &[(u32, bool)]) -> Refusals {
     conditions.iter().filter(|condition| condition.1).map(|condition| condition.0).collect()
 }
 
-fn bad_vertices(record: Record) -> bool {
-    !(1..=256).contains(&record[0])
+fn bad_vertices(vertices: u32) -> bool {
+    !(1..=256).contains(&vertices)
 }
 
 fn bad_longest(longest: u32) -> bool {
@@ -89,21 +88,25 @@ fn settle(mut refusals: Refusals, wanted: &[Edge], longest: u32, memory: &mut Me
     refusals
 }
 
-pub fn open(record: Record, memory: &mut Memory) -> Refusals {
-    let refusals = applying(&[(1, bad_vertices(record)), (2, bad_longest(record[1])), (3, memory.edges.len() > EDGES)]);
+/// Opening. As in every changing call the record becomes what is handed back: as given if refused, else with the totals
+/// of the edges that then stand, whatever they were.
+pub fn open(record: &mut Record, memory: &mut Memory) -> Refusals {
+    let [vertices, longest] = record.header;
+    let refusals = applying(&[(1, bad_vertices(vertices)), (2, bad_longest(longest)), (3, memory.edges.len() > EDGES)]);
     if refusals.is_empty() {
         memory.edges.fill(0);
         memory.index.fill(0);
+        *record = Record::counted(record.header, &[]);
     }
     refusals
 }
 
 /// Insertion (lay) or removal (lift).
-pub fn change(insertion: bool, record: Record, edge: Edge, memory: &mut Memory) -> Refusals {
-    let vertices = record[0];
+pub fn change(insertion: bool, record: &mut Record, edge: Edge, memory: &mut Memory) -> Refusals {
+    let [vertices, longest] = record.header;
     let mut refusals = applying(&[
-        (1, bad_vertices(record)),
-        (2, bad_longest(record[1])),
+        (1, bad_vertices(vertices)),
+        (2, bad_longest(longest)),
         (3, bad_edges(&memory.edges, vertices)),
         (4, memory.work.len() < WORK + memory.index.len()),
         (5, edge.0 >= vertices || edge.2 >= vertices),
@@ -123,24 +126,50 @@ pub fn change(insertion: bool, record: Record, edge: Edge, memory: &mut Memory) 
         wanted.remove(&edge);
     }
     let wanted: Vec<Edge> = wanted.into_iter().collect();
-    settle(refusals, &wanted, record[1], memory)
+    let refusals = settle(refusals, &wanted, longest, memory);
+    if refusals.is_empty() {
+        *record = Record::counted(record.header, &wanted);
+    }
+    refusals
 }
 
-/// The query (question): its refusals, and yes or no if there are none. For a pattern written once the index replies;
-/// edge and work memory are not looked at. Otherwise the walks reply that spell the pattern as keyed, and work memory
-/// ends zero.
-pub fn query(record: Record, start: u32, destination: u32, pattern: &[u8], memory: &mut Memory) -> (Refusals, bool) {
-    let [vertices, longest] = record;
-    let again = repeats_itself(pattern);
-    let refusals = applying(&[
-        (1, bad_vertices(record)),
+/// The query (question): its refusals, and yes or no if there are none. With a label whose total is 0 it "is a no
+/// without reading the index, and checks 12, 3 and 4 are skipped for it"; otherwise the full reply is given.
+pub fn query(record: &Record, start: u32, destination: u32, pattern: &[u8], memory: &mut Memory) -> (Refusals, bool) {
+    if record.lacks(pattern) {
+        (question_checks(record.header, start, destination, pattern), false)
+    } else {
+        full_query(record.header, start, destination, pattern, memory)
+    }
+}
+
+fn question_checks(header: Header, start: u32, destination: u32, pattern: &[u8]) -> Refusals {
+    let [vertices, longest] = header;
+    applying(&[
+        (1, bad_vertices(vertices)),
         (2, bad_longest(longest)),
         (10, start >= vertices || destination >= vertices),
         (11, bad_pattern(pattern, longest)),
+    ])
+}
+
+/// The full reply, in which totals have no part. For a pattern written once the index replies; edge and work memory are
+/// not looked at. Otherwise the walks reply that spell the pattern as keyed, and work memory ends zero.
+pub fn full_query(
+    header: Header,
+    start: u32,
+    destination: u32,
+    pattern: &[u8],
+    memory: &mut Memory,
+) -> (Refusals, bool) {
+    let [vertices, longest] = header;
+    let again = repeats_itself(pattern);
+    let mut refusals = question_checks(header, start, destination, pattern);
+    refusals.extend(applying(&[
         (12, !is_index(&memory.index, vertices, longest)),
         (3, again && bad_edges(&memory.edges, vertices)),
         (4, again && memory.work.len() < WORK),
-    ]);
+    ]));
     if !refusals.is_empty() {
         return (refusals, false);
     }
@@ -161,10 +190,10 @@ pub struct Check {
     pub allowed: u32,
 }
 
-fn plain_checks(record: Record, check: &Check, edges: &[u32], work: &[u64]) -> Refusals {
-    let [vertices, longest] = record;
+fn plain_checks(header: Header, check: &Check, edges: &[u32], work: &[u64]) -> Refusals {
+    let [vertices, longest] = header;
     applying(&[
-        (1, bad_vertices(record)),
+        (1, bad_vertices(vertices)),
         (2, bad_longest(longest)),
         (3, bad_edges(edges, vertices)),
         (4, work.len() < WORK),
@@ -173,9 +202,10 @@ fn plain_checks(record: Record, check: &Check, edges: &[u32], work: &[u64]) -> R
     ])
 }
 
-/// The level search (plain check): its refusals, and what it found if there are none.
-pub fn search(record: Record, check: &Check, edges: &[u32], work: &mut [u64]) -> (Refusals, Found) {
-    let refusals = plain_checks(record, check, edges, work);
+/// The level search (plain check): its refusals, and what it found if there are none. Totals play no part, here and in
+/// the route.
+pub fn search(header: Header, check: &Check, edges: &[u32], work: &mut [u64]) -> (Refusals, Found) {
+    let refusals = plain_checks(header, check, edges, work);
     if !refusals.is_empty() {
         return (refusals, Found::No(0));
     }
@@ -192,8 +222,8 @@ fn route_in(check: &Check, edges: &[u32]) -> Walk {
 
 /// The route: its refusals, and its edges, empty for a no. "The checks are the plain check's"; then 18, "walk memory
 /// shorter than that walk, checked last; it leaves work memory zero".
-pub fn route(record: Record, check: &Check, edges: &[u32], walk: &mut [u32], work: &mut [u64]) -> (Refusals, Walk) {
-    let mut refusals = plain_checks(record, check, edges, work);
+pub fn route(header: Header, check: &Check, edges: &[u32], walk: &mut [u32], work: &mut [u64]) -> (Refusals, Walk) {
+    let mut refusals = plain_checks(header, check, edges, work);
     if refusals.is_empty() {
         work.fill(0);
     }
@@ -208,23 +238,27 @@ pub fn route(record: Record, check: &Check, edges: &[u32], walk: &mut [u32], wor
 }
 
 /// The layout card of a header and edges.
-pub fn card_of(record: Record, edges: &[Edge]) -> Vec<u8> {
+pub fn card_of(header: Header, edges: &[Edge]) -> Vec<u8> {
     let mut card = b"PRC\x00\x01".to_vec();
-    card.push((record[0] - 1) as u8);
-    card.push(record[1] as u8);
+    card.push((header[0] - 1) as u8);
+    card.push(header[1] as u8);
     card.extend((edges.len() as u16).to_be_bytes());
     edges.iter().for_each(|edge| card.extend([edge.0 as u8, edge.1 as u8, edge.2 as u8]));
     card
 }
 
-/// Card reading: its refusals, and the card's record if there are none.
+/// How many edges a card claims to have, and those of them that are there.
+pub fn card_edges(card: &[u8]) -> (usize, Vec<Edge>) {
+    let claimed = card.get(7..9).map_or(0, |bytes| bytes[0] as usize * 256 + bytes[1] as usize);
+    let triples = card.get(9..).unwrap_or(&[]).chunks_exact(3).take(claimed);
+    (claimed, triples.map(|bytes| (bytes[0] as u32, bytes[1] as u32, bytes[2] as u32)).collect())
+}
+
+/// Card reading: its refusals, and the card's record, with the totals of its edges, if there are none.
 pub fn read_card(card: &[u8], memory: &mut Memory) -> (Refusals, Option<Record>) {
     let vertices = card.get(5).map_or(0, |byte| *byte as u32 + 1);
     let longest = card.get(6).map_or(0, |byte| *byte as u32);
-    let claimed = card.get(7..9).map_or(0, |bytes| bytes[0] as usize * 256 + bytes[1] as usize);
-    // The claimed edges that are there.
-    let triples = card.get(9..).unwrap_or(&[]).chunks_exact(3).take(claimed);
-    let edges: Vec<Edge> = triples.map(|bytes| (bytes[0] as u32, bytes[1] as u32, bytes[2] as u32)).collect();
+    let (claimed, edges) = card_edges(card);
     let refusals = applying(&[
         (14, card.len() < 9 || &card[..3] != b"PRC"),
         (15, card.get(3..5).is_some_and(|version| version != [0, 1])),
@@ -235,22 +269,22 @@ pub fn read_card(card: &[u8], memory: &mut Memory) -> (Refusals, Option<Record>)
         (4, memory.work.len() < WORK + memory.index.len()),
     ]);
     let refusals = settle(refusals, &edges, longest, memory);
-    let record = refusals.is_empty().then_some([vertices, longest]);
+    let record = refusals.is_empty().then_some(Record::counted([vertices, longest], &edges));
     (refusals, record)
 }
 
 /// Card writing: its refusals, and the card's length if there are none.
-pub fn write_card(record: Record, edges: &[u32], output: &mut [u8]) -> (Refusals, usize) {
+pub fn write_card(header: Header, edges: &[u32], output: &mut [u8]) -> (Refusals, usize) {
     let standing = standing(edges).unwrap_or_default();
     let length = 9 + 3 * standing.len();
     let refusals = applying(&[
-        (1, bad_vertices(record)),
-        (2, bad_longest(record[1])),
-        (3, bad_edges(edges, record[0])),
+        (1, bad_vertices(header[0])),
+        (2, bad_longest(header[1])),
+        (3, bad_edges(edges, header[0])),
         (17, output.len() < length),
     ]);
     if refusals.is_empty() {
-        output[..length].copy_from_slice(&card_of(record, &standing));
+        output[..length].copy_from_slice(&card_of(header, &standing));
     }
     (refusals, length)
 }

@@ -1,8 +1,10 @@
 //! Layout cards: valid, damaged, truncated and overlong, read and written.
 
-use crate::calls::{card_of, Memory, Record};
+use crate::calls::{card_of, Memory};
 use crate::compare::Tester;
 use crate::gen;
+use crate::record::{Header, Record};
+use crate::records;
 use crate::reference::*;
 use crate::rng::Rng;
 
@@ -12,8 +14,8 @@ pub fn round(t: &mut Tester) {
         let layout = gen::layout(&mut t.rng);
         let count = t.rng.pick(&[0, 1, 2, 5, 10, 30]);
         let edges = gen::edges(&mut t.rng, &layout, count);
-        let needed = determined(&edges, layout.record[1]).len();
-        let mut card = card_of(layout.record, &edges);
+        let needed = determined(&edges, layout.header[1]).len();
+        let mut card = card_of(layout.header, &edges);
         if t.rng.one_in(2) {
             damage(&mut t.rng, &mut card);
         }
@@ -38,17 +40,22 @@ pub fn round(t: &mut Tester) {
         if let (0, Some(record)) = t.read_card(&card, &mut memory) {
             written_again(t, record, &memory, &card);
         }
-        // The written card in outputs from 0 bytes up, also from damaged memory.
-        let mut slots = gen::edge_memory(&edges, edges.len() + t.rng.below(4));
-        if t.rng.one_in(2) {
-            gen::damage_edges(&mut t.rng, layout.record[0], &mut slots);
-        }
-        let length = 9 + 3 * edges.len();
-        let any = t.rng.below(length);
-        let room = t.rng.pick(&[0, 8, 9, length - 1, length, length + 1, length + 100, any]);
-        let mut output = t.rng.bytes(room);
-        t.write_card(layout.record, &slots, &mut output);
+        written(t, layout.header, &edges);
     }
+}
+
+/// A card written to outputs from 0 bytes up, also from damaged memory, with any totals.
+fn written(t: &mut Tester, header: Header, edges: &[Edge]) {
+    let mut slots = gen::edge_memory(edges, edges.len() + t.rng.below(4));
+    if t.rng.one_in(2) {
+        gen::damage_edges(&mut t.rng, header[0], &mut slots);
+    }
+    let length = 9 + 3 * edges.len();
+    let any = t.rng.below(length);
+    let room = t.rng.pick(&[0, 8, 9, length - 1, length, length + 1, length + 100, any]);
+    let mut output = t.rng.bytes(room);
+    let record = records::any(&mut t.rng, header, edges);
+    t.write_card(record, &slots, &mut output);
 }
 
 /// Changes a card, mostly so that it is refused.
@@ -85,23 +92,28 @@ pub fn damage(rng: &mut Rng, card: &mut Vec<u8>) {
     }
 }
 
-/// After an accepted reading, writing gives the card's bytes and length and leaves the rest of the output alone.
+/// After an accepted reading, writing gives the card's bytes and length and leaves the rest of the output alone,
+/// whatever the totals have become.
 fn written_again(t: &mut Tester, record: Record, memory: &Memory, card: &[u8]) {
     let room = card.len() + t.rng.below(5);
-    let before = t.rng.bytes(room);
-    let mut output = before.clone();
-    let reply = t.write_card(record, &memory.edges, &mut output);
-    t.expect("the length of a card written again", reply, (0, card.len()));
-    t.expect("the bytes of a card written again", &output[..card.len()], card);
-    t.expect("the rest of the output", &output[card.len()..], &before[card.len()..]);
+    for record in [record, records::any(&mut t.rng, record.header, &[])] {
+        let before = t.rng.bytes(room);
+        let mut output = before.clone();
+        let reply = t.write_card(record, &memory.edges, &mut output);
+        t.expect("the length of a card written again", reply, (0, card.len()));
+        t.expect("the bytes of a card written again", &output[..card.len()], card);
+        t.expect("the rest of the output", &output[card.len()..], &before[card.len()..]);
+    }
 }
 
-/// A written card, read with just enough of everything, gives the same record and edges.
+/// A written card, read with just enough of everything, gives the same record, totals too, and edges. The totals that
+/// it was written with play no part.
 pub fn there_and_back(t: &mut Tester, record: Record, memory: &Memory) {
     let edges = standing(&memory.edges).unwrap();
-    let needed = determined(&edges, record[1]).len();
+    let needed = determined(&edges, record.header[1]).len();
     let mut card = t.rng.bytes(9 + 3 * edges.len());
-    t.write_card(record, &memory.edges, &mut card);
+    let written = records::any(&mut t.rng, record.header, &edges);
+    t.write_card(written, &memory.edges, &mut card);
     let work = 4096 + needed;
     let mut fresh = gen::noise(&mut t.rng, edges.len(), needed, work);
     let reply = t.read_card(&card, &mut fresh);

@@ -1,8 +1,11 @@
 //! How often each call was accepted, gave each refusal, and had each pair of refusals apply at once (the
-//! earlier one returned); how the questions by patterns that repeat themselves were answered; and what the routes were
-//! like.
+//! earlier one returned); how the questions by patterns that repeat themselves were answered; and the named cases of
+//! routes, queries, records and full replies.
 
-use crate::cases::{Routed, CASES};
+use crate::cases::{self, Routed};
+use crate::full_reply;
+use crate::query_cases::{self, Asked};
+use crate::record_cases::{self, Handed};
 use std::collections::BTreeMap;
 
 #[derive(Clone, Copy, PartialEq, Eq, PartialOrd, Ord, Debug)]
@@ -39,15 +42,27 @@ pub const IMPOSSIBLE: [(Call, u32, u32, &str); 3] = [
 /// The answers to a question by a pattern that repeats itself; the second is the one that folding would get wrong.
 const AGAIN: [&str; 3] = ["yes", "no where the minimum repeat is run", "no where it is not run"];
 
+/// Lengths of a record that 255 refuses.
+pub const OTHER_LENGTHS: [usize; 9] = [0, 1, 2, 3, 4, 9, 11, 20, 100];
+
+/// Groups of cases.
+const ROUTE: &str = "Route";
+const QUERY: &str = "Query";
+const LIST: &str = "List";
+const LENGTH: &str = "Records of other lengths";
+
+fn of_records(call: Call) -> String {
+    format!("Records of {call:?}")
+}
+
 #[derive(Default)]
 pub struct Counts {
     accepted: BTreeMap<Call, u64>,
     refused: BTreeMap<(Call, u32), u64>,
     pairs: BTreeMap<(Call, u32, u32), u64>,
     again: BTreeMap<&'static str, u64>,
-    routes: BTreeMap<&'static str, u64>,
-    /// Records of another length than 2, put to all calls.
-    pub other_records: u64,
+    /// By group and case.
+    cases: BTreeMap<String, BTreeMap<String, u64>>,
 }
 
 impl Counts {
@@ -85,19 +100,66 @@ impl Counts {
 
     /// A route that was answered, or refused with 18 alone.
     pub fn add_route(&mut self, routed: &Routed) {
-        for (case, _) in CASES.iter().filter(|(_, is_so)| is_so(routed)) {
-            *self.routes.entry(*case).or_default() += 1;
+        for (case, _) in cases::CASES.iter().filter(|(_, is_so)| is_so(routed)) {
+            self.add_case(ROUTE, case);
         }
     }
 
-    fn report_routes(&self, missing: &mut Vec<String>) {
-        let cases = CASES.iter().map(|(case, _)| (*case, self.routes.get(case).copied().unwrap_or(0)));
-        for (case, count) in cases.chain([("a record of another length than 2", self.other_records)]) {
-            println!("Route: {case}: {count}");
-            if count == 0 {
-                missing.push(format!("Route: {case} not reached"));
-            }
+    pub fn add_query(&mut self, asked: &Asked) {
+        for (case, _) in query_cases::CASES.iter().filter(|(_, is_so)| is_so(asked)) {
+            self.add_case(QUERY, case);
         }
+    }
+
+    pub fn add_record(&mut self, handed: &Handed) {
+        let group = of_records(handed.call);
+        handed.cases().iter().for_each(|case| self.add_case(&group, case));
+    }
+
+    /// A query held to its full reply in a list.
+    pub fn add_full_reply(&mut self, case: &str) {
+        self.add_case(LIST, case);
+    }
+
+    /// Records of another length than 10, put to all calls.
+    pub fn add_other_record(&mut self, length: usize) {
+        self.add_case(LENGTH, &length.to_string());
+    }
+
+    fn add_case(&mut self, group: &str, case: &str) {
+        let cases = match self.cases.get_mut(group) {
+            Some(cases) => cases,
+            None => self.cases.entry(group.to_string()).or_default(),
+        };
+        match cases.get_mut(case) {
+            Some(count) => *count += 1,
+            None => _ = cases.insert(case.to_string(), 1),
+        }
+    }
+
+    fn report_cases(&self, missing: &mut Vec<String>) {
+        let routes = cases::CASES.iter().map(|case| case.0.to_string()).collect();
+        let queries = query_cases::CASES.iter().map(|case| case.0.to_string()).collect();
+        for (group, needed) in [(ROUTE, routes), (QUERY, queries), (LIST, full_reply::needed())] {
+            let counted = self.counted(group, needed, missing);
+            counted.iter().for_each(|(case, count)| println!("{group}: {case}: {count}"));
+        }
+        let lengths = (LENGTH.to_string(), OTHER_LENGTHS.iter().map(|length| length.to_string()).collect());
+        let records = ORDERS.map(|(call, order)| (of_records(call), record_cases::needed(call, order)));
+        for (group, needed) in records.into_iter().chain([lengths]) {
+            let counted = self.counted(&group, needed, missing);
+            let counted: Vec<String> = counted.iter().map(|(case, count)| format!("{case}: {count}")).collect();
+            println!("{group}: {}", counted.join("; "));
+        }
+    }
+
+    /// The needed cases of a group with their counts; those not reached are missing.
+    fn counted(&self, group: &str, needed: Vec<String>, missing: &mut Vec<String>) -> Vec<(String, u64)> {
+        let count = |case: &String| self.cases.get(group).and_then(|cases| cases.get(case)).copied().unwrap_or(0);
+        let counted: Vec<(String, u64)> = needed.into_iter().map(|case| (case.clone(), count(&case))).collect();
+        let not_reached = counted.iter().filter(|(_, count)| *count == 0);
+        missing.extend(not_reached.map(|(case, _)| format!("{group}: {case} not reached")));
+        counted
     }
 
     /// Prints the counts; returns what is missing, one line each.
@@ -133,7 +195,7 @@ impl Counts {
             println!("  pairs {}", of_call.join(" "));
         }
         self.report_again(&mut missing);
-        self.report_routes(&mut missing);
+        self.report_cases(&mut missing);
         for (call, first, other, reason) in IMPOSSIBLE {
             println!("impossible: {call:?} {first}+{other}: {reason}");
         }

@@ -1,6 +1,7 @@
 //! Random layouts, memories and arguments, right ones and wrong ones.
 
-use crate::calls::{fill, Check, Memory, Record, EDGES, WORK};
+use crate::calls::{fill, Check, Memory, EDGES, WORK};
+use crate::record::Header;
 use crate::reference::*;
 use crate::rng::Rng;
 use std::collections::BTreeSet;
@@ -8,7 +9,7 @@ use std::collections::BTreeSet;
 /// A small layout to draw edges from.
 #[derive(Clone)]
 pub struct Layout {
-    pub record: Record,
+    pub header: Header,
     pub labels: Vec<u32>,
 }
 
@@ -20,14 +21,14 @@ pub fn layout(rng: &mut Rng) -> Layout {
     while labels.len() > count {
         labels.remove(rng.below(labels.len()));
     }
-    Layout { record: [vertices, rng.from_to(1, 4) as u32], labels }
+    Layout { header: [vertices, rng.from_to(1, 4) as u32], labels }
 }
 
 /// A vertex, one of about 20 near the low and high ends.
 pub fn vertex(rng: &mut Rng, layout: &Layout) -> u32 {
-    let vertex = rng.below(layout.record[0].min(16) as usize) as u32;
+    let vertex = rng.below(layout.header[0].min(16) as usize) as u32;
     if rng.one_in(4) {
-        layout.record[0] - 1 - vertex
+        layout.header[0] - 1 - vertex
     } else {
         vertex
     }
@@ -76,7 +77,7 @@ pub fn noise(rng: &mut Rng, edges: usize, index: usize, work: usize) -> Memory {
 
 /// A pattern of 1 to k labels of the layout.
 pub fn pattern(rng: &mut Rng, layout: &Layout) -> Vec<u8> {
-    let length = rng.from_to(1, layout.record[1].min(4) as usize);
+    let length = rng.from_to(1, layout.header[1].min(4) as usize);
     (0..length).map(|_| rng.pick(&layout.labels) as u8).collect()
 }
 
@@ -94,7 +95,7 @@ pub fn shapes(rng: &mut Rng, layout: &Layout) -> Vec<Vec<u8>> {
     let b = if others.is_empty() { a } else { rng.pick(&others) };
     let (a, b) = (a as u8, b as u8);
     let mut shapes = vec![vec![a, a], vec![a, b, a, b], vec![a, a, a], vec![a, a, a, a], vec![a, b, a]];
-    shapes.retain(|shape| shape.len() <= layout.record[1] as usize);
+    shapes.retain(|shape| shape.len() <= layout.header[1] as usize);
     shapes
 }
 
@@ -103,7 +104,7 @@ pub fn bad_pattern(rng: &mut Rng, layout: &Layout) -> Vec<u8> {
     let mut pattern = pattern(rng, layout);
     match rng.below(3) {
         0 => pattern.clear(),
-        1 => pattern.resize(layout.record[1].min(4) as usize + rng.pick(&[1, 2, 9, 300]), pattern[0]),
+        1 => pattern.resize(layout.header[1].min(4) as usize + rng.pick(&[1, 2, 9, 300]), pattern[0]),
         _ => {
             let i = rng.below(pattern.len());
             pattern[i] = no_label(rng) as u8;
@@ -256,7 +257,7 @@ pub fn damage_edges(rng: &mut Rng, vertices: u32, memory: &mut Vec<u32>) {
 }
 
 /// Changes index memory, mostly so that 12 refuses it.
-pub fn damage_index(rng: &mut Rng, record: Record, memory: &mut Vec<u64>) {
+pub fn damage_index(rng: &mut Rng, header: Header, memory: &mut Vec<u64>) {
     if memory.is_empty() || rng.one_in(10) {
         let slot = rng.next() >> rng.below(40);
         memory.push(slot);
@@ -269,7 +270,7 @@ pub fn damage_index(rng: &mut Rng, record: Record, memory: &mut Vec<u64>) {
         0, 0x11, 0x88, 0x111, 0x222, 0x1212, 0x1111, 0x3434, 0x10, 0x101, 0x9, 0xF, 0x19, 0x91, 0xA1, 0x1231, 0x12,
         0x123,
     ]);
-    let wrong_vertex = (no_vertex(rng, record[0]) % 256) as u64;
+    let wrong_vertex = (no_vertex(rng, header[0]) % 256) as u64;
     match rng.below(10) {
         0 => memory.swap(i, rng.below(filled)),
         1 => memory[i] = memory[rng.below(filled)],

@@ -1,7 +1,8 @@
 //! Document 01's ledger, a plain machine of its own: it holds vertices, longest and a set of edges, is fed
-//! what each call is given and how many slots are lent, and is shown no reply and no memory.
+//! what each call is given and how many slots are lent, and is shown no reply and no memory. The totals in its replies
+//! (document 02, Four) it counts itself.
 
-use crate::calls::Record;
+use crate::record::{Header, Record};
 use crate::reference::{determined, edge_number, Edge};
 use std::collections::BTreeSet;
 
@@ -26,37 +27,51 @@ pub type Reply = (u32, Option<Record>);
 
 #[derive(Default)]
 pub struct Ledger {
-    pub record: Record,
-    pub edges: BTreeSet<Edge>,
+    pub header: Header,
+    edges: BTreeSet<Edge>,
+    /// The record last replied to an accepted call.
+    replied: Record,
 }
 
 impl Ledger {
     pub fn feed(&mut self, fed: &Fed, slots: Slots) -> Reply {
         let number = match fed {
-            Fed::Open(record) => self.open(*record, slots),
+            Fed::Open(record) => self.open(record.header, slots),
             Fed::Insert(edge) => self.change(*edge, true, slots),
             Fed::Remove(edge) => self.change(*edge, false, slots),
             Fed::Card(card) => self.card(card, slots),
         };
+        if number == 0 {
+            self.replied = self.record();
+        }
         let record = match fed {
             Fed::Open(given) if number != 0 => Some(*given),
             Fed::Card(_) if number != 0 => None,
-            _ => Some(self.record),
+            _ => Some(self.replied),
         };
         (number, record)
     }
 
-    fn open(&mut self, record: Record, slots: Slots) -> u32 {
-        if record[0] < 1 || record[0] > 256 {
+    /// Vertices and longest then held, and one for each standing edge in the total of its label.
+    fn record(&self) -> Record {
+        let mut record = Record { header: self.header, totals: [0; 8] };
+        for (_, label, _) in &self.edges {
+            record.totals[*label as usize - 1] += 1;
+        }
+        record
+    }
+
+    fn open(&mut self, header: Header, slots: Slots) -> u32 {
+        if header[0] < 1 || header[0] > 256 {
             return 1;
         }
-        if record[1] < 1 || record[1] > 4 {
+        if header[1] < 1 || header[1] > 4 {
             return 2;
         }
         if slots.edges > 1024 {
             return 3;
         }
-        self.record = record;
+        self.header = header;
         self.edges.clear();
         0
     }
@@ -69,7 +84,7 @@ impl Ledger {
         if slots.work < 4096 + slots.index {
             return 4;
         }
-        if from >= self.record[0] || to >= self.record[0] {
+        if from >= self.header[0] || to >= self.header[0] {
             return 5;
         }
         if label < 1 || label > 8 {
@@ -85,7 +100,7 @@ impl Ledger {
         if insertion && slots.edges < wanted.len() {
             return 9;
         }
-        if needed(&wanted, self.record[1]).len() > slots.index {
+        if needed(&wanted, self.header[1]).len() > slots.index {
             return 13;
         }
         self.edges = wanted;
@@ -99,8 +114,8 @@ impl Ledger {
         if card[3] != 0 || card[4] != 1 {
             return 15;
         }
-        let record = [card[5] as u32 + 1, card[6] as u32];
-        if record[1] < 1 || record[1] > 4 {
+        let header = [card[5] as u32 + 1, card[6] as u32];
+        if header[1] < 1 || header[1] > 4 {
             return 2;
         }
         let count = u16::from_be_bytes([card[7], card[8]]) as usize;
@@ -110,7 +125,7 @@ impl Ledger {
         let mut edges: BTreeSet<Edge> = BTreeSet::new();
         for bytes in card[9..].chunks(3) {
             let edge = (bytes[0] as u32, bytes[1] as u32, bytes[2] as u32);
-            let of_layout = edge.0 < record[0] && edge.1 >= 1 && edge.1 <= 8 && edge.2 < record[0];
+            let of_layout = edge.0 < header[0] && edge.1 >= 1 && edge.1 <= 8 && edge.2 < header[0];
             if !of_layout || edges.last().is_some_and(|last| *last >= edge) {
                 return 16;
             }
@@ -125,12 +140,16 @@ impl Ledger {
         if slots.work < 4096 + slots.index {
             return 4;
         }
-        if needed(&edges, record[1]).len() > slots.index {
+        if needed(&edges, header[1]).len() > slots.index {
             return 13;
         }
-        self.record = record;
+        self.header = header;
         self.edges = edges;
         0
+    }
+
+    pub fn standing(&self) -> Vec<Edge> {
+        self.edges.iter().copied().collect()
     }
 
     /// What edge memory of this many slots holds: the standing edges, rising, then zeros.
@@ -142,7 +161,7 @@ impl Ledger {
 
     /// What index memory of this many slots holds: the entries that the standing edges determine, rising, then zeros.
     pub fn index_memory(&self, slots: usize) -> Vec<u64> {
-        let mut memory = needed(&self.edges, self.record[1]);
+        let mut memory = needed(&self.edges, self.header[1]);
         memory.resize(slots, 0);
         memory
     }

@@ -2,6 +2,7 @@
 
 const GUARDS: usize = 8;
 
+#[derive(PartialEq)]
 pub struct Lent<T> {
     all: Vec<T>,
     guard: T,

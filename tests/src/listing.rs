@@ -61,9 +61,10 @@ fn printed_by(program: &str, input: &[u8]) -> String {
 fn expected(card: &[u8]) -> String {
     let mut memory = Memory { edges: vec![0; SLOTS], index: vec![0; SLOTS], work: vec![0; 4096 + SLOTS] };
     let (refusals, record) = read_card(card, &mut memory);
-    let Some([vertices, longest]) = record else {
+    let Some(record) = record else {
         return format!("refused {}\n", refusals[0]);
     };
+    let [vertices, longest] = record.header;
     let edges = memory.edges.iter().filter(|slot| **slot != 0).count();
     let entries: Vec<u64> = memory.index.iter().copied().filter(|slot| *slot != 0).collect();
     let mut text = format!("places {vertices} longest {longest} legs {edges} entries {}\n", entries.len());

@@ -3,8 +3,9 @@
 //!
 //! rlc_tests [SEED [ROUNDS [FIRST]]]: the fixed parts, then rounds FIRST, FIRST + 1, ... of random ones. A
 //! round's inputs depend on the seed and its number only. Status 0 and a summary if all agrees; 1 at the
-//! first disagreement, or if a refusal, a pair of refusals or a case of a route was not reached.
+//! first disagreement, or if a refusal, a pair of refusals or a named case was not reached.
 
+mod asks;
 mod bounds;
 mod calls;
 mod cards;
@@ -12,13 +13,21 @@ mod cases;
 mod compare;
 mod counts;
 mod damaged;
+mod full_reply;
 mod gen;
+mod handed;
+mod lacking;
 mod ledger;
+mod lengths;
 mod lent;
 mod library;
 mod listing;
 mod lists;
 mod pairs;
+mod query_cases;
+mod record;
+mod record_cases;
+mod records;
 mod reference;
 mod repeats;
 mod rng;
@@ -46,16 +55,7 @@ fn main() {
     let begin = Instant::now();
     selfcheck::run();
     let mut t = Tester::new(seed);
-    trials::run(&mut t);
-    println!("trials: {} calls, {:.1} s", t.calls, begin.elapsed().as_secs_f64());
-    bounds::run(&mut t);
-    println!("bounds: {} calls, {:.1} s", t.calls, begin.elapsed().as_secs_f64());
-    routes::run(&mut t);
-    println!("routes: {} calls, {:.1} s", t.calls, begin.elapsed().as_secs_f64());
-    repeats::run(&mut t, REPEAT_TABLE);
-    println!("repeats: {} calls, {:.1} s", t.calls, begin.elapsed().as_secs_f64());
-    let listings = listing::run(&mut t, LISTING);
-    println!("listing: {listings} inputs, {:.1} s", begin.elapsed().as_secs_f64());
+    fixed_parts(&mut t, begin);
     for round in first..first + rounds {
         t.round = round;
         t.rng = Rng::new(seed.wrapping_mul(1_000_003).wrapping_add(round));
@@ -64,6 +64,8 @@ fn main() {
         damaged::round(&mut t);
         cards::round(&mut t);
         routes::round(&mut t);
+        handed::round(&mut t);
+        lacking::round(&mut t);
     }
     let missing = t.counts.report();
     missing.iter().for_each(|line| println!("MISSING: {line}"));
@@ -74,4 +76,23 @@ fn main() {
         if missing.is_empty() { "all agree" } else { "FAILED" }
     );
     std::process::exit(if missing.is_empty() { 0 } else { 1 });
+}
+
+/// The parts that are no rounds, each with the calls and the time so far.
+fn fixed_parts(t: &mut Tester, begin: Instant) {
+    let parts: [(&str, fn(&mut Tester)); 7] = [
+        ("trials", trials::run),
+        ("bounds", bounds::run),
+        ("lengths", lengths::run),
+        ("handed", handed::run),
+        ("lacking", lacking::run),
+        ("routes", routes::run),
+        ("repeats", |t| repeats::run(t, REPEAT_TABLE)),
+    ];
+    for (name, run) in parts {
+        run(t);
+        println!("{name}: {} calls, {:.1} s", t.calls, begin.elapsed().as_secs_f64());
+    }
+    let listings = listing::run(t, LISTING);
+    println!("listing: {listings} inputs, {:.1} s", begin.elapsed().as_secs_f64());
 }

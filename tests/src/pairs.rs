@@ -6,6 +6,7 @@ use crate::calls::{card_of, keyed, repeats_itself, Check, Memory, EDGES};
 use crate::compare::Tester;
 use crate::counts::{Call, ORDERS};
 use crate::gen::{self, Layout};
+use crate::records;
 use crate::reference::*;
 use crate::shortest;
 
@@ -29,7 +30,7 @@ pub fn round(t: &mut Tester) {
 fn layout_and_edges(t: &mut Tester) -> (Layout, Vec<Edge>) {
     loop {
         let mut layout = gen::layout(&mut t.rng);
-        layout.record[0] = layout.record[0].max(3);
+        layout.header[0] = layout.header[0].max(3);
         let count = t.rng.from_to(3, 20);
         let edges = gen::edges(&mut t.rng, &layout, count);
         if edges.len() >= 3 && edges.iter().any(|edge| edge.0.max(edge.2) > 0) {
@@ -53,12 +54,12 @@ fn put(t: &mut Tester, call: Call, forced: &[u32]) {
 
 fn force_record(t: &mut Tester, forced: &[u32], layout: &mut Layout) {
     if forced.contains(&1) {
-        layout.record[0] = gen::no_vertices(&mut t.rng);
+        layout.header[0] = gen::no_vertices(&mut t.rng);
     }
     if forced.contains(&2) {
         // If entries are to be needed, k is too large and not 0.
         let longest = gen::no_longest(&mut t.rng);
-        layout.record[1] = if forced.contains(&13) { longest.max(5) } else { longest };
+        layout.header[1] = if forced.contains(&13) { longest.max(5) } else { longest };
     }
 }
 
@@ -80,12 +81,12 @@ fn force_edges(t: &mut Tester, forced: &[u32], layout: &mut Layout, edges: &mut 
     }
     if kind < 2 {
         let top = edges.iter().map(|edge| edge.0.max(edge.2)).max().unwrap();
-        layout.record[0] = top;
+        layout.header[0] = top;
         return gen::edge_memory(edges, edges.len() + more);
     }
     let mut memory = gen::edge_memory(edges, edges.len() + more);
-    while standing(&memory).is_some_and(|edges| edges_of_layout(&edges, layout.record[0])) {
-        gen::damage_edges(&mut t.rng, layout.record[0], &mut memory);
+    while standing(&memory).is_some_and(|edges| edges_of_layout(&edges, layout.header[0])) {
+        gen::damage_edges(&mut t.rng, layout.header[0], &mut memory);
     }
     memory
 }
@@ -99,13 +100,18 @@ fn force_index(t: &mut Tester, forced: &[u32], needed: usize) -> (usize, usize) 
     (index, work)
 }
 
+/// Over noise, or over edges that stand.
 fn open(t: &mut Tester, forced: &[u32]) {
-    let (mut layout, _) = layout_and_edges(t);
+    let (mut layout, edges) = layout_and_edges(t);
     force_record(t, forced, &mut layout);
-    let edges = if forced.contains(&3) { EDGES + t.rng.pick(&[1, 1, 2, 500]) } else { t.rng.pick(&[0, 1, 7, EDGES]) };
+    let slots = if forced.contains(&3) { EDGES + t.rng.pick(&[1, 1, 2, 500]) } else { t.rng.pick(&[0, 1, 7, EDGES]) };
     let index = t.rng.below(20);
-    let mut memory = gen::noise(&mut t.rng, edges, index, 0);
-    t.open(layout.record, &mut memory);
+    let mut memory = gen::noise(&mut t.rng, slots, index, 0);
+    if slots >= edges.len() && t.rng.one_in(2) {
+        memory.edges = gen::edge_memory(&edges, slots);
+    }
+    let mut record = records::any(&mut t.rng, layout.header, &edges);
+    t.open(&mut record, &mut memory);
 }
 
 fn change(t: &mut Tester, insertion: bool, forced: &[u32]) {
@@ -127,13 +133,13 @@ fn change(t: &mut Tester, insertion: bool, forced: &[u32]) {
     if insertion {
         wanted.push(edge);
     }
-    let longest = layout.record[1];
+    let longest = layout.header[1];
     let judged = if forced.contains(&13) || forced.contains(&3) { longest.min(2) } else { longest };
     let needed = determined_entries(&wanted, judged).len();
     let (index, work) = force_index(t, forced, needed);
     force_record(t, forced, &mut layout);
     if forced.contains(&5) {
-        let bad = gen::no_vertex(&mut t.rng, layout.record[0]);
+        let bad = gen::no_vertex(&mut t.rng, layout.header[0]);
         if t.rng.one_in(2) {
             edge.0 = bad
         } else {
@@ -145,7 +151,8 @@ fn change(t: &mut Tester, insertion: bool, forced: &[u32]) {
     }
     let mut memory = gen::noise(&mut t.rng, 0, index, work);
     memory.edges = slots;
-    t.change(insertion, layout.record, edge, &mut memory);
+    let mut record = records::any(&mut t.rng, layout.header, &edges);
+    t.change(insertion, &mut record, edge, &mut memory);
 }
 
 fn force_question(t: &mut Tester, forced: &[u32], layout: &Layout) -> Check {
@@ -156,7 +163,7 @@ fn force_question(t: &mut Tester, forced: &[u32], layout: &Layout) -> Check {
         allowed: t.rng.pick(&[0, 1, 2, 1025]),
     };
     if forced.contains(&10) {
-        let high = if forced.contains(&1) { 65_536 } else { layout.record[0] };
+        let high = if forced.contains(&1) { 65_536 } else { layout.header[0] };
         let bad = gen::no_vertex(&mut t.rng, high);
         if t.rng.one_in(2) {
             check.start = bad
@@ -172,7 +179,7 @@ fn force_question(t: &mut Tester, forced: &[u32], layout: &Layout) -> Check {
 
 /// Index memory for a query, for 12 damaged: the entries of the edges with both ends in the layout, or any.
 fn force_entries(t: &mut Tester, forced: &[u32], layout: &Layout, edges: &[Edge]) -> Vec<u64> {
-    let [vertices, longest] = layout.record;
+    let [vertices, longest] = layout.header;
     let within: Vec<Edge> = edges.iter().copied().filter(|edge| edge.0.max(edge.2) < vertices).collect();
     let mut index = determined(&within, longest);
     if t.rng.one_in(2) {
@@ -180,20 +187,20 @@ fn force_entries(t: &mut Tester, forced: &[u32], layout: &Layout, edges: &[Edge]
     }
     index.push(0);
     while forced.contains(&12) && is_index(&index, vertices, longest) {
-        gen::damage_index(&mut t.rng, layout.record, &mut index);
+        gen::damage_index(&mut t.rng, layout.header, &mut index);
     }
     index
 }
 
 /// For 3 and 4 the pattern repeats itself, with 11 too in more than k labels. A pattern written once gets dirty memory
-/// as well.
+/// as well. Each input is put twice: with no total of 0 for a label of the pattern, and with one.
 fn query(t: &mut Tester, forced: &[u32]) {
     let (mut layout, mut edges) = layout_and_edges(t);
     let again = forced.contains(&3) || forced.contains(&4);
     if again {
-        layout.record[1] = layout.record[1].max(2);
+        layout.header[1] = layout.header[1].max(2);
     }
-    let longest = layout.record[1] as usize;
+    let longest = layout.header[1] as usize;
     let slots = force_edges(t, forced, &mut layout, &mut edges, false);
     let mut check = force_question(t, forced, &layout);
     if again {
@@ -208,7 +215,10 @@ fn query(t: &mut Tester, forced: &[u32]) {
         memory = gen::dirty(&mut t.rng, &memory.index);
     }
     force_record(t, forced, &mut layout);
-    t.query(layout.record, check.start, check.destination, &check.pattern, &mut memory);
+    let having = records::having(&mut t.rng, layout.header, &edges, &check.pattern);
+    let lacking = records::lacking(&mut t.rng, layout.header, &edges, &check.pattern);
+    t.query(having, check.start, check.destination, &check.pattern, &mut memory.clone());
+    t.query(lacking, check.start, check.destination, &check.pattern, &mut memory);
 }
 
 fn search(t: &mut Tester, forced: &[u32]) {
@@ -219,13 +229,14 @@ fn search(t: &mut Tester, forced: &[u32]) {
     force_record(t, forced, &mut layout);
     let mut memory = gen::noise(&mut t.rng, 0, 0, work);
     memory.edges = slots;
-    t.search(layout.record, &check, &mut memory);
+    let record = records::any(&mut t.rng, layout.header, &edges);
+    t.search(record, &check, &mut memory);
 }
 
 /// For 18 some walk answers the question, with 11 too one of more than k edges, and with 10 too one from or to the
 /// vertex that an end's last byte names. Walk memory is too short for the walk.
 fn walked(t: &mut Tester, forced: &[u32], layout: &Layout, edges: &[Edge]) -> Option<(Check, usize)> {
-    let longest = layout.record[1] as usize;
+    let longest = layout.header[1] as usize;
     let any = t.rng.from_to(1, longest);
     let length = if forced.contains(&11) { longest + t.rng.pick(&[1, 1, 2, 3, 4, 100]) } else { any };
     let mut check = gen::along(&mut t.rng, edges, length)?;
@@ -256,14 +267,15 @@ fn route(t: &mut Tester, forced: &[u32]) {
     force_record(t, forced, &mut layout);
     let mut memory = Memory { edges: slots, ..gen::noise(&mut t.rng, 0, 0, work) };
     let mut walk = t.rng.short_words(walk);
-    t.route(layout.record, &check, &mut memory, &mut walk);
+    let record = records::any(&mut t.rng, layout.header, &edges);
+    t.route(record, &check, &mut memory, &mut walk);
 }
 
 fn read_card(t: &mut Tester, forced: &[u32]) {
     let (mut layout, mut edges) = layout_and_edges(t);
     let mut slots = edges.len() + t.rng.below(4);
     if forced.contains(&3) && forced.contains(&9) {
-        layout.record = [256, t.rng.from_to(1, 2) as u32];
+        layout.header = [256, t.rng.from_to(1, 2) as u32];
         edges = gen::many_edges(&mut t.rng, EDGES + 20);
         slots = EDGES + 1 + t.rng.below(19);
     } else if forced.contains(&3) {
@@ -271,11 +283,11 @@ fn read_card(t: &mut Tester, forced: &[u32]) {
     } else if forced.contains(&9) {
         slots = t.rng.below(edges.len());
     }
-    let longest = layout.record[1];
+    let longest = layout.header[1];
     let needed = determined_entries(&edges, if forced.contains(&13) { longest.min(2) } else { longest }).len();
     let (index, work) = force_index(t, forced, needed);
     force_record(t, forced, &mut layout);
-    let mut card = card_of([layout.record[0].clamp(1, 256), layout.record[1].min(255)], &edges);
+    let mut card = card_of([layout.header[0].clamp(1, 256), layout.header[1].min(255)], &edges);
     if forced.contains(&16) {
         force_16(t, &mut card);
     }
@@ -315,6 +327,6 @@ fn write_card(t: &mut Tester, forced: &[u32]) {
     let any = t.rng.below(length);
     let room = if forced.contains(&17) { t.rng.pick(&[0, 8, length - 1, any]) } else { length + t.rng.below(5) };
     let mut output = t.rng.bytes(room);
-    let memory = Memory { edges: slots, ..Memory::default() };
-    t.write_card(layout.record, &memory.edges, &mut output);
+    let record = records::any(&mut t.rng, layout.header, &edges);
+    t.write_card(record, &slots, &mut output);
 }

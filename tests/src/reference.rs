@@ -40,6 +40,14 @@ pub fn standing(memory: &[u32]) -> Option<Vec<Edge>> {
     right.then_some(edges)
 }
 
+/// Document 02, Four: how many edges have label 1, label 2, .. label 8.
+pub type Totals = [u32; 8];
+
+/// The totals of these edges, each label counted by itself.
+pub fn totals(edges: &[Edge]) -> Totals {
+    std::array::from_fn(|i| edges.iter().filter(|edge| edge.1 == i as u32 + 1).count() as u32)
+}
+
 /// The shortest pattern which, written some whole number of times, gives this one.
 pub fn minimum_repeat<T: PartialEq + Clone>(pattern: &[T]) -> Vec<T> {
     let gives =

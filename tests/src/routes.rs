@@ -1,9 +1,12 @@
 //! Routes (document 02, Three), held to the plain check of the same question and to what a walk is: in all layouts of
-//! very few vertices and labels, in small crowded ones, and in ones where many walks have as few edges.
+//! very few vertices and labels, in small crowded ones, and in ones where many walks have as few edges. The totals of
+//! the records may be any.
 
-use crate::calls::{keyed, Check, Memory, Record, EDGES};
+use crate::calls::{keyed, Check, Memory, EDGES};
 use crate::compare::{Tester, YES};
 use crate::gen::{self, Layout};
+use crate::record::{Header, Record};
+use crate::records;
 use crate::reference::*;
 use crate::shortest::is_walk;
 use crate::trials::LAYOUT_A;
@@ -39,10 +42,11 @@ fn small_layouts(t: &mut Tester, vertices: u32, labels: u32) {
     let questions = gen::every_question(vertices, labels, 3);
     for edges in gen::every_layout(vertices, labels) {
         for check in &questions {
+            let record = records::any(&mut t.rng, [vertices, 3], &edges);
             let edges = gen::edge_memory(&edges, edges.len());
             let mut memory = Memory { edges, ..gen::noise(&mut t.rng, 0, 0, 4096) };
             let mut walk = t.rng.short_words(10);
-            t.route([vertices, 3], check, &mut memory, &mut walk);
+            t.route(record, check, &mut memory, &mut walk);
         }
     }
 }
@@ -63,7 +67,8 @@ fn lengths(t: &mut Tester) {
                     let mut memory = Memory { edges, ..gen::noise(&mut t.rng, 0, 0, work) };
                     let check = Check { start, destination, pattern: vec![1], allowed: 0 };
                     let mut walk = t.rng.short_words(walk);
-                    let reply = t.route([3, 2], &check, &mut memory, &mut walk);
+                    let record = records::any(&mut t.rng, [3, 2], &LAYOUT_A);
+                    let reply = t.route(record, &check, &mut memory, &mut walk);
                     t.expect("a route in memory of any length", reply, refusal.unwrap_or(answer));
                 }
             }
@@ -74,13 +79,13 @@ fn lengths(t: &mut Tester) {
 /// Few vertices with few or many edges, numbered from 0 or up to 255, and questions that mostly some walk answers.
 fn crowded(t: &mut Tester) {
     let (vertices, labels) = (t.rng.from_to(1, 6) as u32, t.rng.from_to(1, 3) as u32);
-    let layout = Layout { record: [vertices, t.rng.from_to(1, 4) as u32], labels: (1..=labels).collect() };
+    let layout = Layout { header: [vertices, t.rng.from_to(1, 4) as u32], labels: (1..=labels).collect() };
     let count = t.rng.from_to(1, (2 * vertices * labels) as usize);
     let mut edges = gen::edges(&mut t.rng, &layout, count);
-    let mut record = layout.record;
+    let mut header = layout.header;
     let first = t.rng.pick(&[0, 0, 256 - vertices]);
     if first > 0 {
-        record[0] = 256;
+        header[0] = 256;
         edges.iter_mut().for_each(|edge| *edge = (edge.0 + first, edge.1, edge.2 + first));
     }
     for _ in 0..12 {
@@ -91,12 +96,13 @@ fn crowded(t: &mut Tester) {
         if !ends.is_empty() && !t.rng.one_in(4) {
             destination = t.rng.pick(&ends);
         }
-        ask(t, record, &Check { start, destination, pattern, allowed: 0 }, &edges);
+        ask(t, header, &Check { start, destination, pattern, allowed: 0 }, &edges);
     }
 }
 
 /// Asks in edge memory of these edges, with dirty work memory.
-fn ask(t: &mut Tester, record: Record, check: &Check, edges: &[Edge]) {
+fn ask(t: &mut Tester, header: Header, check: &Check, edges: &[Edge]) {
+    let record = records::any(&mut t.rng, header, edges);
     let slots = (edges.len() + t.rng.pick(&[0, 0, 1, 7])).min(EDGES);
     let work = t.rng.pick(&[4096, 4096, 4097, 5000]);
     let memory = Memory { edges: gen::edge_memory(edges, slots), ..gen::noise(&mut t.rng, 0, 0, work) };

@@ -1,14 +1,20 @@
 //! The second implementation held to facts that documents 01, 02 and 004 print.
 
-use crate::calls::{keyed, Check};
+use crate::calls::{self, full_query, keyed, query, Check, Memory};
 use crate::compare::YES;
 use crate::gen;
+use crate::ledger::{Fed, Ledger, Slots};
+use crate::record::Record;
 use crate::reference::*;
 use crate::rng::Rng;
 use crate::shortest::*;
-use crate::trials::{table_2_slots, CARD_A, FIGURE_2, KEYED_TWICE, LAYOUT_A, LAYOUT_B, ROUTES, SLOTS_A};
+use crate::trials::{table_2_slots, CARD_A, FIGURE_2, KEYED_TWICE, LAYOUT_A, LAYOUT_B, ROUTES, SLOTS_A, TOTALS_A};
 
 pub fn run() {
+    counted_totals();
+    lacking_queries();
+    changed_totals();
+    ledger_totals();
     keyed_twice();
     routes_by_hand();
     routes_both_ways();
@@ -39,6 +45,88 @@ pub fn run() {
     assert!(table[7] == [8] && table[8] == [1, 1] && table[71] == [8, 8] && table[72] == [1, 1, 1]);
     // 8 + 56 + 504 + 4,032 patterns are their own minimum repeat.
     assert_eq!(patterns(&[1, 2, 3, 4, 5, 6, 7, 8], 4).len(), 4600);
+}
+
+fn counted_totals() {
+    assert_eq!(totals(&LAYOUT_A), TOTALS_A);
+    assert_eq!(totals(&LAYOUT_B), [3, 4, 0, 0, 0, 0, 0, 0]);
+    assert_eq!(totals(&FIGURE_2), [6, 4, 1, 0, 0, 0, 0, 0]);
+    assert_eq!(totals(&[(255, 8, 0), (255, 8, 255)]), [0, 0, 0, 0, 0, 0, 0, 2]);
+    assert_eq!(totals(&[]), [0; 8]);
+    let record = Record::counted([3, 2], &LAYOUT_A);
+    assert_eq!(record.numbers(), [3, 2, 2, 1, 0, 0, 0, 0, 0, 0]);
+    assert!(record.lacks(&[3]) && record.lacks(&[1, 8]) && !record.lacks(&[1, 2]) && !record.lacks(&[2]));
+    assert!(!record.lacks(&[]) && !record.lacks(&[0]) && !record.lacks(&[9, 255]));
+}
+
+/// Layout A, k 2, in just enough memory.
+fn memory_of_a() -> Memory {
+    Memory { edges: gen::edge_memory(&LAYOUT_A, 3), index: SLOTS_A.to_vec(), work: vec![7; 4096] }
+}
+
+/// In A, by labels whose totals are 0 and are not, with right and with damaged memory.
+fn lacking_queries() {
+    let record = Record { header: [3, 2], totals: TOTALS_A };
+    let overstated = Record { totals: [2, 1, 1, 0, 0, 0, 0, 0], ..record };
+    let understated = Record { totals: [0, 1, 0, 0, 0, 0, 0, 0], ..record };
+    let mut damaged = Memory { edges: vec![1], index: vec![5, 4], work: vec![7; 5] };
+    let found = damaged.clone();
+    for pattern in [&[3][..], &[3, 3], &[1, 3], &[8, 1]] {
+        assert_eq!(query(&record, 0, 2, pattern, &mut damaged), (vec![], false));
+    }
+    assert_eq!(query(&understated, 0, 2, &[1, 1], &mut damaged), (vec![], false));
+    assert_eq!(query(&overstated, 0, 2, &[3], &mut damaged), (vec![12], false));
+    assert_eq!(query(&overstated, 0, 2, &[3, 3], &mut damaged), (vec![12, 3, 4], false));
+    assert_eq!(full_query([3, 2], 0, 2, &[3, 3], &mut damaged), (vec![12, 3, 4], false));
+    assert_eq!(query(&record, 3, 2, &[3], &mut damaged), (vec![10], false));
+    assert_eq!(query(&record, 0, 2, &[3, 3, 3], &mut damaged), (vec![11], false));
+    assert_eq!(damaged, found);
+    let mut a = memory_of_a();
+    assert_eq!(query(&record, 0, 2, &[1], &mut a), (vec![], true));
+    assert_eq!(query(&understated, 0, 2, &[1], &mut a), (vec![], false));
+    assert_eq!(query(&understated, 1, 0, &[2], &mut a), (vec![], true));
+    assert_eq!(query(&understated, 0, 2, &[1, 1], &mut a), (vec![], false));
+    assert_eq!(a, memory_of_a());
+    assert_eq!(query(&record, 0, 2, &[1, 1], &mut a), (vec![], true));
+    assert_eq!(a.work, [0; 4096]);
+}
+
+/// Each changing call counts anew, and hands the totals back as they were if it refuses.
+fn changed_totals() {
+    let lying = Record { header: [3, 2], totals: [u32::MAX, 0, 5, 0, 0, 0, 0, 1] };
+    for (insertion, edge, number, totals) in [
+        (true, (2, 8, 2), 13, lying.totals),
+        (true, (0, 1, 1), 7, lying.totals),
+        (false, (1, 2, 0), 0, [2, 0, 0, 0, 0, 0, 0, 0]),
+        (false, (0, 2, 0), 8, lying.totals),
+    ] {
+        let (mut record, mut a) = (lying, Memory { edges: gen::edge_memory(&LAYOUT_A, 4), ..memory_of_a() });
+        a.work.resize(4101, 7);
+        assert_eq!(calls::change(insertion, &mut record, edge, &mut a).first().copied().unwrap_or(0), number);
+        assert_eq!((record.header, record.totals), ([3, 2], totals));
+    }
+    let (mut record, mut a) = (lying, memory_of_a());
+    assert!(calls::open(&mut record, &mut a).is_empty());
+    assert_eq!(record.numbers(), [3, 2, 0, 0, 0, 0, 0, 0, 0, 0]);
+    a.work.resize(4101, 7);
+    let read = calls::read_card(&CARD_A, &mut a);
+    assert_eq!(read, (vec![], Some(Record { header: [3, 2], totals: TOTALS_A })));
+    assert_eq!(calls::read_card(&CARD_A[..8], &mut a).1, None);
+}
+
+/// The ledger's own count, and what it shows after a refusal.
+fn ledger_totals() {
+    let slots = Slots { edges: 4, index: 60, work: 4156 };
+    let lying = Record { header: [0, 2], totals: [9; 8] };
+    let mut ledger = Ledger::default();
+    let of = |totals| Some(Record { header: [3, 2], totals });
+    assert_eq!(ledger.feed(&Fed::Card(CARD_A.to_vec()), slots), (0, of(TOTALS_A)));
+    assert_eq!(ledger.feed(&Fed::Open(lying), slots), (1, Some(lying)));
+    assert_eq!(ledger.feed(&Fed::Insert((2, 8, 0)), slots), (0, of([2, 1, 0, 0, 0, 0, 0, 1])));
+    assert_eq!(ledger.feed(&Fed::Insert((2, 8, 1)), slots), (9, of([2, 1, 0, 0, 0, 0, 0, 1])));
+    assert_eq!(ledger.feed(&Fed::Card(vec![]), slots), (14, None));
+    assert_eq!(ledger.feed(&Fed::Remove((1, 2, 0)), slots), (0, of([2, 0, 0, 0, 0, 0, 0, 1])));
+    assert_eq!(ledger.feed(&Fed::Open(Record { header: [3, 2], ..lying }), slots), (0, of([0; 8])));
 }
 
 /// Both ways to find the walks that run a pattern as keyed, and the levels.

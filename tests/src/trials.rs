@@ -1,13 +1,16 @@
 //! The trial runs of documents 01 and 02, with their own expectations, and Table II of document 004.
 
-use crate::calls::{Check, Memory, Record};
+use crate::calls::{card_of, Check, Memory};
 use crate::compare::{Tester, SPENT, YES};
 use crate::gen;
+use crate::record::{Header, Record};
+use crate::records;
 use crate::reference::*;
 
 pub const CARD_A: [u8; 18] =
     [0x50, 0x52, 0x43, 0x00, 0x01, 0x02, 0x02, 0x00, 0x03, 0x00, 0x01, 0x01, 0x01, 0x01, 0x02, 0x01, 0x02, 0x00];
 pub const LAYOUT_A: [Edge; 3] = [(0, 1, 1), (1, 1, 2), (1, 2, 0)];
+pub const TOTALS_A: Totals = [2, 1, 0, 0, 0, 0, 0, 0];
 pub const SLOTS_A: [u64; 5] = [18, 65537, 16842785, 4295032834, 4328587265];
 pub const LAYOUT_B: [Edge; 7] = [(0, 1, 2), (0, 1, 3), (0, 2, 4), (1, 1, 0), (5, 2, 1), (6, 2, 1), (7, 2, 1)];
 
@@ -36,7 +39,7 @@ pub const TABLE_2: [(u64, u32, u32, &[u32]); 26] = [
 ];
 
 /// Vertices and k, edges, start, destination, pattern, and the plain check's reply and levels.
-pub type KeyedTwice = (Record, &'static [Edge], u32, u32, &'static [u8], (u32, u32));
+pub type KeyedTwice = (Header, &'static [Edge], u32, u32, &'static [u8], (u32, u32));
 
 const PATH: &[Edge] = &[(0, 1, 1), (1, 1, 2), (2, 1, 3), (3, 1, 4)];
 const TRIANGLE: &[Edge] = &[(0, 1, 1), (1, 1, 2), (2, 1, 0)];
@@ -68,7 +71,7 @@ pub const KEYED_TWICE: [KeyedTwice; 22] = [
 ];
 
 /// Vertices and k, edges, start, destination, pattern, and the route's edges, none for a no.
-pub type Route = (Record, &'static [Edge], u32, u32, &'static [u8], &'static [u32]);
+pub type Route = (Header, &'static [Edge], u32, u32, &'static [u8], &'static [u32]);
 
 const SQUARE: &[Edge] = &[(0, 1, 1), (0, 1, 2), (1, 1, 3), (2, 1, 3)];
 const CROSSED: &[Edge] = &[(0, 1, 1), (0, 1, 2), (1, 1, 4), (2, 1, 3), (3, 1, 5), (4, 1, 5)];
@@ -124,7 +127,7 @@ fn memory(t: &mut Tester, edges: usize, index: usize) -> Memory {
 }
 
 fn layout_a(t: &mut Tester) {
-    let record: Record = [3, 2];
+    let mut record = Record { header: [3, 2], totals: TOTALS_A };
     let mut a = memory(t, 1024, 1024);
     let reply = t.read_card(&CARD_A, &mut a);
     t.expect("card A", reply, (0, Some(record)));
@@ -134,9 +137,10 @@ fn layout_a(t: &mut Tester) {
 
     queries_in_a(t, record, &mut a);
     checks_in_a(t, record, &mut a);
+    labels_in_a(t, record, &a);
 
     a.work = t.rng.words(5120);
-    let reply = t.change(true, record, (0, 1, 1), &mut a);
+    let reply = t.change(true, &mut record, (0, 1, 1), &mut a);
     t.expect("laying 0-1-1 in A", reply, 7);
 
     for (slots, expected) in [(5, 0), (4, 13)] {
@@ -177,6 +181,43 @@ fn queries_in_a(t: &mut Tester, record: Record, a: &mut Memory) {
         t.expect("a query in A", reply, expected);
         let left = if pattern == [1, 1] && expected != 10 { vec![0; 4096] } else { found };
         t.expect("work memory zero after an answer by 1,1, else as found", a.work == left, true);
+    }
+}
+
+/// Document 02, Four, by labels that A lacks: no, also with index memory that 12 refuses. A record that gives label 3 a
+/// total of 1 though no edge has it is taken at its word, and so is one that gives label 1 none though two have it.
+fn labels_in_a(t: &mut Tester, record: Record, a: &Memory) {
+    let mut damaged = a.clone();
+    damaged.index.swap(0, 1);
+    let mut overstated = record;
+    overstated.totals[2] = 1;
+    let mut understated = record;
+    understated.totals[0] = 0;
+    let queries: [(Record, u32, u32, &[u8], u32, u32); 14] = [
+        (record, 0, 2, &[3], 0, 0),
+        (record, 0, 2, &[8], 0, 0),
+        (record, 0, 2, &[3, 3], 0, 0),
+        (record, 0, 2, &[1, 3], 0, 0),
+        (record, 0, 2, &[3, 1], 0, 0),
+        (record, 0, 2, &[1], YES, 12),
+        (overstated, 0, 2, &[3], 0, 12),
+        (overstated, 0, 2, &[3, 3], 0, 12),
+        (overstated, 0, 2, &[1, 3], 0, 12),
+        (overstated, 0, 2, &[4], 0, 0),
+        (understated, 0, 2, &[1], 0, 0),
+        (understated, 0, 2, &[1, 1], 0, 0),
+        (understated, 0, 0, &[1, 2], 0, 0),
+        (understated, 1, 0, &[2], YES, 12),
+    ];
+    for (record, start, destination, pattern, right, wrong) in queries {
+        for (memory, expected) in [(a, right), (&damaged, wrong)] {
+            let mut lent = Memory { work: t.rng.words(4096), ..memory.clone() };
+            let found = lent.work.clone();
+            let reply = t.query(record, start, destination, pattern, &mut lent);
+            t.expect("a query in A by its totals", reply, expected);
+            let used = pattern == [3, 3] && record == overstated && expected == 0;
+            t.expect("work memory as found, unless edges are searched", lent.work == found, !used);
+        }
     }
 }
 
@@ -225,36 +266,40 @@ fn repeats(t: &mut Tester) {
 }
 
 fn layout_b(t: &mut Tester) {
-    let card = crate::calls::card_of([8, 1], &LAYOUT_B);
+    let card = card_of([8, 1], &LAYOUT_B);
     for (slots, read, removed) in [(6, 13, 8), (7, 0, 13), (8, 0, 0)] {
         let mut b = memory(t, 7, slots);
-        let reply = t.read_card(&card, &mut b).0;
+        let (reply, record) = t.read_card(&card, &mut b);
         t.expect("layout B", reply, read);
-        if read == 0 {
+        if let Some(mut record) = record {
             let filled = b.index.iter().filter(|slot| **slot != 0).count();
             t.expect("the entries of layout B", filled, 7);
             b.work = t.rng.words(4096 + slots);
-            let reply = t.change(false, [8, 1], (0, 2, 4), &mut b);
+            let reply = t.change(false, &mut record, (0, 2, 4), &mut b);
             t.expect("lifting 0-2-4 in layout B", reply, removed);
+            let twos = if removed == 0 { 3 } else { 4 };
+            t.expect("the totals of layout B", record.totals, [3, twos, 0, 0, 0, 0, 0, 0]);
         }
     }
 
     // One vertex, k 1, edge 0-1-0: one slot, 1.
     let mut one = memory(t, 1, 1);
-    let reply = t.open([1, 1], &mut one);
+    let mut record = records::any(&mut t.rng, [1, 1], &[]);
+    let reply = t.open(&mut record, &mut one);
     t.expect("one vertex", reply, 0);
-    let reply = t.change(true, [1, 1], (0, 1, 0), &mut one);
+    let reply = t.change(true, &mut record, (0, 1, 0), &mut one);
     t.expect("one edge", reply, 0);
     t.expect("its slot", one.index[0], 1);
 }
 
 fn limits(t: &mut Tester) {
-    for (record, expected) in [([256, 4], 0), ([257, 4], 1), ([256, 5], 2), ([257, 5], 1)] {
+    for (header, expected) in [([256, 4], 0), ([257, 4], 1), ([256, 5], 2), ([257, 5], 1)] {
         let mut memory = memory(t, 4, 4);
-        let reply = t.open(record, &mut memory);
+        let mut record = records::any(&mut t.rng, header, &[]);
+        let reply = t.open(&mut record, &mut memory);
         t.expect("an opening at the limits", reply, expected);
         if expected == 0 {
-            let reply = t.change(true, record, (255, 8, 255), &mut memory);
+            let reply = t.change(true, &mut record, (255, 8, 255), &mut memory);
             t.expect("an insertion at the limits", reply, 0);
             t.expect("its slots", &memory.index[..], &[0xFFFF_0008, 0, 0, 0]);
             memory.work = t.rng.words(4096);
@@ -266,7 +311,7 @@ fn limits(t: &mut Tester) {
 
 /// Read as a card, as the counted access order of this graph is the paper's.
 fn table_2(t: &mut Tester) {
-    let card = crate::calls::card_of([6, 2], &FIGURE_2);
+    let card = card_of([6, 2], &FIGURE_2);
     for (slots, expected) in [(25, 13), (26, 0)] {
         let mut memory = memory(t, 11, slots);
         let reply = t.read_card(&card, &mut memory).0;
@@ -279,13 +324,14 @@ fn table_2(t: &mut Tester) {
 
 /// Laid edge by edge, asked, and checked plainly with every allowance up to one more than the levels.
 fn keyed_twice(t: &mut Tester) {
-    for (record, edges, start, destination, pattern, (answer, levels)) in KEYED_TWICE {
+    for (header, edges, start, destination, pattern, (answer, levels)) in KEYED_TWICE {
         let mut memory = memory(t, edges.len(), 40);
-        let reply = t.open(record, &mut memory);
+        let mut record = records::any(&mut t.rng, header, edges);
+        let reply = t.open(&mut record, &mut memory);
         t.expect("an opening", reply, 0);
         for edge in edges {
             memory.work = t.rng.words(4136);
-            let reply = t.change(true, record, *edge, &mut memory);
+            let reply = t.change(true, &mut record, *edge, &mut memory);
             t.expect("an insertion", reply, 0);
         }
         memory.work = t.rng.words(4096);
@@ -308,12 +354,13 @@ fn keyed_twice(t: &mut Tester) {
 
 /// Each route with walk memory of every length up to two slots more, all of it dirty.
 fn routes(t: &mut Tester) {
-    for (record, edges, start, destination, pattern, route) in ROUTES {
+    for (header, edges, start, destination, pattern, route) in ROUTES {
         let check = Check { start, destination, pattern: pattern.to_vec(), allowed: 0 };
         for slots in 0..=route.len() + 2 {
             let mut memory = Memory { edges: gen::edge_memory(edges, edges.len()), ..memory(t, 0, 0) };
             let mut walk = t.rng.short_words(slots);
             let found = walk.clone();
+            let record = records::any(&mut t.rng, header, edges);
             let reply = t.route(record, &check, &mut memory, &mut walk);
             let (expected, written) = match route.len() {
                 0 => ((0, 0), 0),

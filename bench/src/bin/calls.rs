@@ -82,10 +82,11 @@ fn time_queries(name: &str, lent: &mut Lent, questions: usize) {
     print_times(name, proved, rust, format!("{questions} queries"));
 }
 
-/// A pattern of at most k labels, written twice or more.
-fn repeated(random: &mut Random, longest: u32) -> Vec<u8> {
-    let (length, times) = if longest == 2 { (1, 2) } else { [(1, 2), (1, 3), (1, 4), (2, 2)][random.below(4) as usize] };
-    let once: Vec<u8> = (0..length).map(|_| 1 + random.below(4) as u8).collect();
+/// A pattern of at most k labels, written twice or more, of the labels 1 to 4 that the layout has.
+fn repeated(random: &mut Random, lent: &Lent) -> Vec<u8> {
+    let labels: Vec<u8> = (1..=4).filter(|&label| lent.total(label) > 0).collect();
+    let (length, times) = if lent.longest() == 2 { (1, 2) } else { [(1, 2), (1, 3), (1, 4), (2, 2)][random.below(4) as usize] };
+    let once: Vec<u8> = (0..length).map(|_| labels[random.below(labels.len() as u32) as usize]).collect();
     once.repeat(times)
 }
 
@@ -95,7 +96,7 @@ fn time_twice(name: &str, lent: &mut Lent, questions: usize) {
     let (mut queries, mut parts) = (vec![0.0; 5], vec![0.0; 5]);
     for _ in 0..questions {
         let (s, t) = (random.below(VERTICES), random.below(VERTICES));
-        let pattern = repeated(&mut random, lent.record[1]);
+        let pattern = repeated(&mut random, lent);
         for turn in 0..5 {
             let (time, a) = millis(|| lent.query(s, t, &pattern));
             queries[turn] += time * 1e3 / questions as f64;

@@ -1,9 +1,11 @@
 // The boundary for the benchmark only (bench/): leaves under C names, with what they require, which the benchmark meets. This is not the
 // library's C interface.
 use build::Built;
+use model::MOST_LABEL;
 use model::QueryReply;
 ghost use mathlib.Core.Path.{_≡_};
-ghost use lib.ListN.{length};
+ghost use lib.ListN.{length, replicate};
+ghost use Rattle.model.specs.Limits.{mostLabel};
 ghost use Rattle.calls.specs.Call.{lent};
 ghost use Rattle.calls.specs.Query.{queryCall};
 ghost use Rattle.sort.specs.Order.{Distinct, FiveBytes, Sorts};
@@ -43,7 +45,7 @@ pub extern "C" fn bench_build(
     }
 }
 
-// The query, as query::query: 0 no, 1 yes, 2 refused.
+// The query, as query::query: 0 no, 1 yes, 2 refused. Every total is 1: no label is lacking, and the whole query is measured.
 #[no_mangle]
 pub extern "C" fn bench_query(
     vertices: u32,
@@ -56,13 +58,14 @@ pub extern "C" fn bench_query(
     work: &mut [u64],
 ) -> u32
     ensures { λ r. ⌜
-        QueriesNumber (queryCall (record { vertices = vertices; longest = longest }) start destination (now (pattern .entry))
-        (lent (now (edges .entry)) (now (index .entry)) (now (work .entry)))) r (now (work .exit))
+        QueriesNumber (queryCall (record { size = record { vertices = vertices; longest = longest }; totals = replicate mostLabel 1 }) start destination
+        (now (pattern .entry)) (lent (now (edges .entry)) (now (index .entry)) (now (work .entry)))) r (now (work .exit))
         ⌝ }
 {
     let reply = query::query(
         vertices,
         longest,
+        [1; MOST_LABEL],
         start,
         destination,
         pattern,

@@ -18,8 +18,8 @@ use Rattle.model.proofs.Tests.{Tests, test-map, test-and, test-le, test-lt, tes
 use Rattle.model.proofs.Lists.{in-getD}
 use Rattle.model.proofs.Edges.{edge-fields, test-edge}
 use Rattle.model.proofs.Memory.{edge-least}
-use Rattle.calls.specs.Call.{Header}
-use Rattle.calls.specs.Card.{mark, wordAt, edgeBytes, edgeAt, edgeAt?, cardOf, marked?, version?, headerOf, countOf, edgesOf, risingTriples?, cardEdges?, cardChecks, cardRefusal}
+use Rattle.calls.specs.Call.{Size}
+use Rattle.calls.specs.Card.{mark, wordAt, edgeBytes, edgeAt, edgeAt?, cardOf, marked?, version?, sizeOf, countOf, edgesOf, risingTriples?, cardEdges?, cardChecks, cardRefusal}
 use Rattle.calls.proofs.Checks.{First, none as all-pass, pass, first-is, Passed, done, also, passes, test-ends, test-longest}
 
 -- the first of two tests
@@ -63,7 +63,7 @@ pub card-edges-long : (card : List ℕ) → (length card ≡ headBytes + 3 * cou
 unfolding cardEdges?
 card-edges-long card n = rw (test-false (test-eq (length card) (headBytes + 3 * countOf card)) n)
 
-pub card-edges-body : (card : List ℕ) → length card ≡ headBytes + 3 * countOf card → cardEdges? card ≡ risingTriples? (headerOf card .vertices) 0 (drop headBytes card)
+pub card-edges-body : (card : List ℕ) → length card ≡ headBytes + 3 * countOf card → cardEdges? card ≡ risingTriples? (sizeOf card .vertices) 0 (drop headBytes card)
 unfolding cardEdges?
 card-edges-body card e = rw (test-true (test-eq (length card) (headBytes + 3 * countOf card)) e)
 
@@ -210,18 +210,18 @@ triples-good vertices prev (a ∷ b ∷ c ∷ more) e h =
 pub record CardGood (card : List ℕ) : Type 0 where
   pub marked : marked? card ≡ true
   pub version : version? card ≡ true
-  pub longest-least : 1 ≤ headerOf card .longest
-  pub longest-most : headerOf card .longest ≤ mostLongest
+  pub longest-least : 1 ≤ sizeOf card .longest
+  pub longest-most : sizeOf card .longest ≤ mostLongest
   pub whole : length card ≡ headBytes + 3 * countOf card
-  pub triples : risingTriples? (headerOf card .vertices) 0 (drop headBytes card) ≡ true
+  pub triples : risingTriples? (sizeOf card .vertices) 0 (drop headBytes card) ≡ true
   pub count : length (edgesOf (drop headBytes card)) ≡ countOf card
 
 good : (card : List ℕ) → Passed (cardChecks card) → CardGood card
 unfolding cardEdges?
 good card (also marked (also version (also longest (also triples done)))) =
-    let (k, l) = test-yields (test-longest (headerOf card .longest)) longest in
+    let (k, l) = test-yields (test-longest (sizeOf card .longest)) longest in
     let (w, r) = test-yields
-    (test-and (test-eq (length card) (headBytes + 3 * countOf card)) (test-is (risingTriples? (headerOf card .vertices) 0 (drop headBytes card))))
+    (test-and (test-eq (length card) (headBytes + 3 * countOf card)) (test-is (risingTriples? (sizeOf card .vertices) 0 (drop headBytes card))))
     triples in
     record {
       marked = marked;
@@ -247,7 +247,7 @@ pub bytes-known : (l : List ℕ) → ((i : ℕ) → getD l i 0 < 256) → Bytes 
 bytes-known l f x m = let k = in-getD m in rw (k .is) at (f (k .i))
 
 -- a card of bytes has at most 256 vertices
-pub card-vertices : (card : List ℕ) → Bytes card → headerOf card .vertices ≤ mostVertices
+pub card-vertices : (card : List ℕ) → Bytes card → sizeOf card .vertices ≤ mostVertices
 card-vertices card f = omega (arith, byte-at card f 5)
 
 -- ---- reading undoes writing
@@ -285,22 +285,22 @@ bytes-edges vertices few (x ∷ l) f =
     bytes-cons (omega (arith, t .from)) (bytes-cons (omega arith) (bytes-cons (omega arith) (bytes-edges vertices few l (λ z m. f z (List·Memᴰ·tail m)))))
 
 -- a header and rising edges of its graph, as a card holds them
-pub record Cardable (h : Header) (edges : List ℕ) : Type 0 where
+pub record Cardable (h : Size) (edges : List ℕ) : Type 0 where
   pub bounds : Bounds (h .vertices) (h .longest)
   pub few : length edges ≤ mostEdges
   pub rising : Rising edges
   pub valid : (x : ℕ) → x ∈ edges → edge? (h .vertices) x ≡ true
 
 -- their card passes, and says them
-pub record CardSays (card : List ℕ) (h : Header) (edges : List ℕ) : Type 0 where
+pub record CardSays (card : List ℕ) (h : Size) (edges : List ℕ) : Type 0 where
   pub passes : cardRefusal card ≡ 0
-  pub header : headerOf card ≡ h
+  pub header : sizeOf card ≡ h
   pub count : countOf card ≡ length edges
   pub edges-are : edgesOf (drop headBytes card) ≡ edges
   pub bytes : Bytes card
   pub size : length card ≡ headBytes + 3 * length edges
 
-pub card-says : {h : Header} {edges : List ℕ} → Cardable h edges → CardSays (cardOf h edges) h edges
+pub card-says : {h : Size} {edges : List ℕ} → Cardable h edges → CardSays (cardOf h edges) h edges
 unfolding cardOf
 card-says {h} {edges} c =
     let vertices-are : h .vertices - 1 + 1 ≡ h .vertices = omega (arith, c .bounds .vertices-least) in
@@ -347,7 +347,7 @@ card-split card h =
     ∙ ap (λ (l : List ℕ). getD card 0 0 ∷ getD card 1 0 ∷ getD card 2 0 ∷ l) (drop-three card 3 (omega arith)
     ∙ ap (λ (l : List ℕ). getD card 3 0 ∷ getD card 4 0 ∷ getD card 5 0 ∷ l) (drop-three card 6 (omega arith)))
 
-pub card-again : (card : List ℕ) → cardRefusal card ≡ 0 → Bytes card → cardOf (headerOf card) (edgesOf (drop headBytes card)) ≡ card
+pub card-again : (card : List ℕ) → cardRefusal card ≡ 0 → Bytes card → cardOf (sizeOf card) (edgesOf (drop headBytes card)) ≡ card
 unfolding cardOf
 card-again card e f =
     let g = card-good card e in
@@ -359,7 +359,7 @@ card-again card e f =
     let vertices-are : getD card 5 0 + 1 - 1 ≡ getD card 5 0 = omega arith in
     let version-high : 0 ≡ getD card 3 0 = omega (arith, v) in
     let version-low : 1 ≡ getD card 4 0 = omega (arith, v) in
-    let triples = bytes-triples (headerOf card .vertices) 0 (drop headBytes card) (g .triples) (card-vertices card f) in
+    let triples = bytes-triples (sizeOf card .vertices) 0 (drop headBytes card) (g .triples) (card-vertices card f) in
     ap₂ _∷_ (letter m 0 (omega arith)) (ap₂ _∷_ (letter m 1 (omega arith)) (ap₂ _∷_ (letter m 2 (omega arith))
     (ap₂ _∷_ version-high (ap₂ _∷_ version-low (ap₂ _∷_ vertices-are (ap₂ _∷_ refl (ap₂ _∷_ high (ap₂ _∷_ low triples))))))))
     ∙ sym (card-split card (m .0))

@@ -1,26 +1,23 @@
 -- Laws of the changing calls: checks one after another, what a refusal leaves, and what settling comes to.
-use mathlib.Core.Path.{_≡_, refl, sym, ap₂}
+use mathlib.Core.Path.{_≡_, refl, sym, ap₂, _∙_}
 use mathlib.Core.Bool.{Bool, true, false}
 use mathlib.Core.List.{List, [], _∷_, _++_}
 use Prim.Native.Nat.{ℕ, zero, suc, _+_, _≤_, _<_}
 use native.Mathlib.Decide.{decLt}
 use native.Mathlib.Omega.{arith}
-use lib.Dec.{T}
+use lib.Dec.{T, leb}
 use lib.ListN.{length}
-use Rattle.model.specs.Limits.{mostLabel, leastWork}
+use Rattle.model.specs.Limits.{mostEdges, mostLabel, leastWork}
 use Rattle.model.specs.Lists.{filled, zeroed}
 use Rattle.model.specs.Edges.{Bounds}
-use Rattle.model.specs.Replies.{numberOf, answerOf}
 use Rattle.model.specs.Computed.Edges.{edgeMemory?}
 use Rattle.model.specs.Computed.Entries.{determined}
-use Rattle.model.specs.declared.Refusal.{Refusal}
-use Rattle.model.specs.declared.Answer.{Answer}
-use Rattle.model.specs.declared.Answer.the-variants.{Accepted, Refused}
 use Rattle.model.proofs.Tests.{test-and, test-le, test-true, test-false, test-yields}
-use Rattle.model.proofs.Replies.{number-some}
+use Rattle.model.proofs.Memory.{edge-memory}
 use Rattle.calls.specs.Checks.{Check, firstRefusal}
-use Rattle.calls.specs.Call.{Header, graphOf, Memory, Outcome, refusing, Meets, Returned}
-use Rattle.calls.specs.Change.{refusedWith, answers, fits?, settle, openRefusal, openCall, changeChecks, changeRefusal, insertRefusal, insertCall, removeRefusal, removeCall}
+use Rattle.calls.specs.Call.{Size, Header, graphOf, Memory, Outcome, refusing, Meets, Returned}
+use Rattle.calls.specs.Card.{countOf, cardChecks, readRefusal, readChange}
+use Rattle.calls.specs.Change.{handed, returning, handing, buildRoom?, fits?, settle, openChecks, openRefusal, openChange, changeChecks, changeRefusal, insertRefusal, insertChange, removeRefusal, removeChange}
 use Rattle.calls.proofs.Checks.{numbered?, Passed, done, also, passes, test-vertices, test-longest, test-ends}
 
 -- ---- checks, and then further ones
@@ -43,7 +40,7 @@ pub front-passes : (l later : List Check) → firstRefusal (l ++ later) ≡ 0 �
 front-passes l later e = elim (decLt 0 (firstRefusal l)) [ yes h ↦ absurd (omega (arith, stop-first l later refl h, e, h)) | no h ↦ omega (arith, h) ]
 
 -- what the checks 1 to 6 leave
-pub record ChangeGood (h : Header) (from label to : ℕ) (m : Memory) : Type 0 where
+pub record ChangeGood (h : Size) (from label to : ℕ) (m : Memory) : Type 0 where
   pub header : Bounds (h .vertices) (h .longest)
   pub memory : edgeMemory? (h .vertices) (m .edges) ≡ true
   pub room : leastWork + length (m .index) ≤ length (m .work)
@@ -52,7 +49,7 @@ pub record ChangeGood (h : Header) (from label to : ℕ) (m : Memory) : Type 0 w
   pub label-least : 1 ≤ label
   pub label-most : label ≤ mostLabel
 
-good : (h : Header) (from label to : ℕ) (m : Memory) → Passed (changeChecks h from label to m) → ChangeGood h from label to m
+good : (h : Size) (from label to : ℕ) (m : Memory) → Passed (changeChecks h from label to m) → ChangeGood h from label to m
 good h from label to m (also vertices (also longest (also memory (also room (also ends (also a-label done)))))) =
     let (v, w) = test-yields (test-vertices (h .vertices)) vertices in
     let (k, l) = test-yields (test-longest (h .longest)) longest in
@@ -68,27 +65,22 @@ good h from label to m (also vertices (also longest (also memory (also room (als
       label-most = d;
     }
 
-pub change-good : (h : Header) (from label to : ℕ) (m : Memory) → changeRefusal h from label to m ≡ 0 → ChangeGood h from label to m
+pub change-good : (h : Size) (from label to : ℕ) (m : Memory) → changeRefusal h from label to m ≡ 0 → ChangeGood h from label to m
 unfolding changeRefusal
 change-good h from label to m e = good h from label to m (passes (changeChecks h from label to m) tt e)
 
--- ---- what a changing call leaves: its answer alone, as a function that does not hand the record back tells it
+-- ---- the record that is handed back
 
-pub change-refused : (n : ℕ) (given : Header) (m : Memory) (c : Outcome Returned) (r : Refusal) → n ≡ numberOf r
-    → Meets (answers (refusing (refusedWith given) m n c)) (numberOf r) m
-change-refused zero given m c r e = absurd (let h = number-some r in omega arith)
-change-refused (suc n) given m c r e = record { reply-is = sym e; edges-after = refl; index-after = refl; work-after = refl; output-after = refl }
+pub handed-some : (given : Header) (size : Size) (edges : List ℕ) (n : ℕ) → 1 ≤ n → handed n given size edges ≡ given
+handed-some given size edges zero h = absurd (omega arith)
+handed-some given size edges (suc n) h = refl
 
--- the record handed back, if it is the one given with every answer
-hands-same : (n : ℕ) (given : Header) (m : Memory) (c : Outcome Returned) → c .reply .header ≡ given → refusing (refusedWith given) m n c .reply .header ≡ given
-hands-same zero given m c e = e
-hands-same (suc n) given m c e = refl
-
--- the answer, and the record that is known to be handed back with it
-pub with-header : (c : Outcome Returned) {h : Header} {n : ℕ} {m : Memory} → c .reply .header ≡ h → Meets (answers c) n m → Meets c (record { header = h; answer = n }) m
-with-header c e l =
+-- a change that leaves that, with the record that is handed back with its answer
+pub handing-meets : (given : Header) (size : Size) {c : Outcome ℕ} {n : ℕ} {m : Memory} {r : Returned} → Meets c n m → r ≡ returning n given size (m .edges)
+    → Meets (handing given size c) r m
+handing-meets given size l e =
     record {
-      reply-is = ap₂ (λ (k : Header) (i : ℕ). record { header = k; answer = i }) (sym e) (l .reply-is);
+      reply-is = e ∙ ap₂ (λ (i : ℕ) (edges : List ℕ). returning i given size edges) (l .reply-is) (l .edges-after);
       edges-after = l .edges-after;
       index-after = l .index-after;
       work-after = l .work-after;
@@ -97,15 +89,10 @@ with-header c e l =
 
 -- ---- settling
 
--- the record that is handed back with an answer: the new one if it accepts, else the one given
-abbrev pub handedBy : Answer → Header → Header → Header
-handedBy Accepted given h = h
-handedBy (Refused r) given h = given
-
-module _ (given h : Header) (wanted : List ℕ) (m : Memory) where
+module _ (h : Size) (wanted : List ℕ) (m : Memory) where
   pub settle-fits : length (determined (graphOf h wanted)) ≤ length (m .index) → {m′ : Memory}
       → m′ .edges ≡ filled (length (m .edges)) wanted → m′ .index ≡ filled (length (m .index)) (determined (graphOf h wanted))
-      → m′ .work ≡ zeroed (m .work) → m′ .output ≡ m .output → Meets (answers (settle given h wanted m)) 0 m′
+      → m′ .work ≡ zeroed (m .work) → m′ .output ≡ m .output → Meets (settle h wanted m) 0 m′
   unfolding settle
   settle-fits l a b c d =
       rw (test-true (test-le (length (determined (graphOf h wanted))) (length (m .index))) l)
@@ -113,31 +100,20 @@ module _ (given h : Header) (wanted : List ℕ) (m : Memory) where
 
   pub settle-short : length (m .index) < length (determined (graphOf h wanted)) → {m′ : Memory}
       → m′ .edges ≡ m .edges → m′ .index ≡ m .index → m′ .work ≡ zeroed (m .work) → m′ .output ≡ m .output
-      → Meets (answers (settle given h wanted m)) 13 m′
+      → Meets (settle h wanted m) 13 m′
   unfolding settle
   settle-short l a b c d =
       rw (test-false (test-le (length (determined (graphOf h wanted))) (length (m .index))) (λ z. omega (arith, z, l)))
       (record { reply-is = refl; edges-after = a; index-after = b; work-after = c; output-after = d })
 
-  pub settle-hands : (r : Answer) → answerOf r ≡ settle given h wanted m .reply .answer → settle given h wanted m .reply .header ≡ handedBy r given h
-  unfolding settle
-  settle-hands r e = go (fits? h wanted m) refl r e
-    where
-      go : (b : Bool) → fits? h wanted m ≡ b → (r : Answer) → answerOf r ≡ settle given h wanted m .reply .answer
-          → settle given h wanted m .reply .header ≡ handedBy r given h
-      go true q Accepted e = rw q refl
-      go true q (Refused r) e = absurd (let a = number-some r in let z : numberOf r ≡ 0 = rw q at e in omega arith)
-      go false q Accepted e = absurd (let z : 0 ≡ 13 = rw q at e in omega arith)
-      go false q (Refused r) e = rw q refl
-
--- what it leaves does not depend on the record given, nor on what work memory holds
-pub settle-same : (given given′ h : Header) (wanted : List ℕ) (m m′ : Memory) {n : ℕ} {left : Memory}
+-- what it leaves does not depend on what work memory holds
+pub settle-same : (h : Size) (wanted : List ℕ) (m m′ : Memory) {n : ℕ} {left : Memory}
     → m .edges ≡ m′ .edges → m .index ≡ m′ .index → length (m .work) ≡ length (m′ .work) → m .output ≡ m′ .output
-    → Meets (answers (settle given h wanted m)) n left → Meets (answers (settle given′ h wanted m′)) n left
+    → Meets (settle h wanted m) n left → Meets (settle h wanted m′) n left
 unfolding settle
-settle-same given given′ h wanted m m′ {n} {left} a b c d v = go (fits? h wanted m) refl
+settle-same h wanted m m′ {n} {left} a b c d v = go (fits? h wanted m) refl
   where
-    go : (t : Bool) → fits? h wanted m ≡ t → Meets (answers (settle given′ h wanted m′)) n left
+    go : (t : Bool) → fits? h wanted m ≡ t → Meets (settle h wanted m′) n left
     go true q =
         let q′ : fits? h wanted m′ ≡ true = rw (sym b) q in
         let v′ = rw q at v in
@@ -159,25 +135,38 @@ settle-same given given′ h wanted m m′ {n} {left} a b c d v = go (fits? h wa
           output-after = rw (sym d) (v′ .output-after);
         })
 
--- ---- opening, insertion and removal hand back the record given
+-- ---- an accepted change was lent at most 1,024 edge slots
 
-settle-back : (h : Header) (wanted : List ℕ) (m : Memory) → settle h h wanted m .reply .header ≡ h
-unfolding settle
-settle-back h wanted m = go (fits? h wanted m) refl
+done-number : (n : ℕ) (m : Memory) (c : Outcome ℕ) → refusing (λ i. i) m n c .reply ≡ 0 → n ≡ 0
+done-number zero m c e = refl
+done-number (suc n) m c e = absurd (omega (arith, e))
+
+pub open-few : (h : Size) (m : Memory) → openChange h m .reply ≡ 0 → length (m .edges) ≤ mostEdges
+unfolding openChange openRefusal
+open-few h m e = elim (passes (openChecks h m) tt (done-number (firstRefusal (openChecks h m)) m _ e)) [
+  | also _ (also _ (also few done)) ↦ test-yields (test-le (length (m .edges)) mostEdges) few
+]
+
+module _ (h : Size) (from label to : ℕ) (m : Memory) where
+  begun-few : (later : List Check) (c : Outcome ℕ) → refusing (λ i. i) m (firstRefusal (changeChecks h from label to m ++ later)) c .reply ≡ 0 → length (m .edges) ≤ mostEdges
+  unfolding changeRefusal
+  begun-few later c e =
+      let g = change-good h from label to m (front-passes (changeChecks h from label to m) later (done-number _ m c e)) in
+      edge-memory (h .vertices) (m .edges) (g .memory) .0
+
+  pub insert-few : insertChange h from label to m .reply ≡ 0 → length (m .edges) ≤ mostEdges
+  unfolding insertChange insertRefusal
+  insert-few e = begun-few _ _ e
+
+  pub remove-few : removeChange h from label to m .reply ≡ 0 → length (m .edges) ≤ mostEdges
+  unfolding removeChange removeRefusal
+  remove-few e = begun-few _ _ e
+
+pub read-few : (card : List ℕ) (m : Memory) → readChange card m .reply ≡ 0 → length (m .edges) ≤ mostEdges
+unfolding readChange readRefusal
+read-few card m e = elim (passes (cardChecks card ++ later) tt (done-number (firstRefusal (cardChecks card ++ later)) m _ e)) [
+  | also _ (also _ (also _ (also _ (also few _)))) ↦ test-yields (test-le (length (m .edges)) mostEdges) few
+]
   where
-    go : (t : Bool) → fits? h wanted m ≡ t → settle h h wanted m .reply .header ≡ h
-    go true q = rw q refl
-    go false q = rw q refl
-
-module _ (h : Header) (m : Memory) where
-  pub open-hands : openCall h m .reply .header ≡ h
-  unfolding openCall
-  open-hands = hands-same (openRefusal h m) h m _ refl
-
-  pub insert-hands : (from label to : ℕ) → insertCall h from label to m .reply .header ≡ h
-  unfolding insertCall
-  insert-hands from label to = hands-same (insertRefusal h from label to m) h m _ (settle-back h _ m)
-
-  pub remove-hands : (from label to : ℕ) → removeCall h from label to m .reply .header ≡ h
-  unfolding removeCall
-  remove-hands from label to = hands-same (removeRefusal h from label to m) h m _ (settle-back h _ m)
+    later : List Check
+    later = (3, leb (length (m .edges)) mostEdges) ∷ (9, leb (countOf card) (length (m .edges))) ∷ (4, buildRoom? m) ∷ []

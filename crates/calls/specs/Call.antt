@@ -2,17 +2,24 @@
 use mathlib.Core.Path.{_≡_}
 use mathlib.Core.List.{List, []}
 use Prim.Native.Nat.{ℕ, zero, suc}
+use lib.ListN.{replicate}
+use Rattle.model.specs.Limits.{mostLabel}
 use Rattle.model.specs.Lists.{zeroed}
 use Rattle.model.specs.Edges.{Graph}
 
--- "The record holds the number of places and k."
-pub record Header : Type 0 where
+-- "The record holds the number of places and k." Checks look at these alone
+pub record Size : Type 0 where
   pub vertices : ℕ
   pub longest : ℕ
 
--- a header with its standing edges
-abbrev pub graphOf : Header → List ℕ → Graph
-graphOf h edges = record { vertices = h .vertices; longest = h .longest; edges = edges }
+-- "The record gains eight totals" (document 02, Four)
+pub record Header : Type 0 where
+  pub size : Size
+  pub totals : List ℕ
+
+-- the size of a layout with its standing edges
+abbrev pub graphOf : Size → List ℕ → Graph
+graphOf size edges = record { vertices = size .vertices; longest = size .longest; edges = edges }
 
 -- edge (leg), index and work memory, and the output into which a call writes. What a call is not lent is empty
 pub record Memory : Type 0 where
@@ -44,7 +51,7 @@ pub record Returned : Type 0 where
 
 -- "for a card, no record": a record that is all zero stands for none
 abbrev pub noRecord : Header
-noRecord = record { vertices = 0; longest = 0 }
+noRecord = record { size = record { vertices = 0; longest = 0 }; totals = replicate mostLabel 0 }
 
 -- the reply of a card's writing: its length, or the number of the refusal
 pub data Wrote : Type 0 where

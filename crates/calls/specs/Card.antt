@@ -9,8 +9,8 @@ use Rattle.model.specs.Edges.{edgeNumber, fromOf, labelOf, toOf, standing}
 use Rattle.model.specs.Computed.Lists.{same?, spread}
 use Rattle.model.specs.Computed.Edges.{label?, edgeMemory?}
 use Rattle.calls.specs.Checks.{vertices?, longest?, ends?, Check, firstRefusal}
-use Rattle.calls.specs.Call.{Header, Memory, Outcome, Returned, noRecord, Wrote, Length, Refused, refusing}
-use Rattle.calls.specs.Change.{refusedWith, buildRoom?, settle}
+use Rattle.calls.specs.Call.{Size, Memory, Outcome, Returned, noRecord, Wrote, Length, Refused, refusing}
+use Rattle.calls.specs.Change.{handing, buildRoom?, settle}
 
 -- "the mark PRC"
 abbrev pub mark : List ℕ
@@ -36,8 +36,8 @@ abbrev pub edgeAt? : ℕ → List ℕ → ℕ → Bool
 edgeAt? vertices bytes i = ends? vertices (getD bytes i 0) (getD bytes (i + 2) 0) && label? (getD bytes (i + 1) 0)
 
 -- "Bytes: the mark PRC, a 16-bit version 1, places less one, k, a 16-bit leg count, then from, colour, to for each leg"
-unfoldable pub cardOf : Header → List ℕ → List ℕ
-cardOf h edges = mark ++ wordBytes 1 ++ ((h .vertices - 1) ∷ h .longest ∷ []) ++ wordBytes (length edges) ++ spread edgeBytes edges
+unfoldable pub cardOf : Size → List ℕ → List ℕ
+cardOf size edges = mark ++ wordBytes 1 ++ ((size .vertices - 1) ∷ size .longest ∷ []) ++ wordBytes (length edges) ++ spread edgeBytes edges
 
 -- ---- what a card says
 
@@ -48,8 +48,8 @@ marked? card = leb headBytes (length card) && same? (take 3 card) mark
 abbrev pub version? : List ℕ → Bool
 version? card = eqb (wordAt card 3) 1
 
-abbrev pub headerOf : List ℕ → Header
-headerOf card = record { vertices = getD card 5 0 + 1; longest = getD card 6 0 }
+abbrev pub sizeOf : List ℕ → Size
+sizeOf card = record { vertices = getD card 5 0 + 1; longest = getD card 6 0 }
 
 abbrev pub countOf : List ℕ → ℕ
 countOf card = wordAt card 7
@@ -71,13 +71,13 @@ risingTriples? vertices prev (from ∷ label ∷ to ∷ more) =
 
 -- "16 length not 9 + 3 × legs, or legs not rising legs of this layout"
 unfoldable pub cardEdges? : List ℕ → Bool
-cardEdges? card = eqb (length card) (headBytes + tripleBytes * countOf card) && risingTriples? (headerOf card .vertices) 0 (drop headBytes card)
+cardEdges? card = eqb (length card) (headBytes + tripleBytes * countOf card) && risingTriples? (sizeOf card .vertices) 0 (drop headBytes card)
 
 -- ---- reading
 
 -- what is checked of the card alone
 abbrev pub cardChecks : List ℕ → List Check
-cardChecks card = (14, marked? card) ∷ (15, version? card) ∷ (2, longest? (headerOf card .longest)) ∷ (16, cardEdges? card) ∷ []
+cardChecks card = (14, marked? card) ∷ (15, version? card) ∷ (2, longest? (sizeOf card .longest)) ∷ (16, cardEdges? card) ∷ []
 
 unfoldable pub cardRefusal : List ℕ → ℕ
 cardRefusal card = firstRefusal (cardChecks card)
@@ -91,28 +91,31 @@ readRefusal card m =
     )
 
 -- "Reading a card fills leg and index memory as if a fresh layout had received those legs; 13 looks at the finished index only."
+unfoldable pub readChange : List ℕ → Memory → Outcome ℕ
+readChange card m = refusing (λ n. n) m (readRefusal card m) (settle (sizeOf card) (edgesOf (drop headBytes card)) m)
+
+-- "for a card, no record"
 unfoldable pub readCall : List ℕ → Memory → Outcome Returned
-readCall card m =
-    refusing (refusedWith noRecord) m (readRefusal card m) (settle noRecord (headerOf card) (edgesOf (drop headBytes card)) m)
+readCall card m = handing noRecord (sizeOf card) (readChange card m)
 
 -- ---- writing
 
 -- "Write card 1 2 3 17"
-unfoldable pub writeRefusal : Header → Memory → ℕ
-writeRefusal h m =
+unfoldable pub writeRefusal : Size → Memory → ℕ
+writeRefusal size m =
     firstRefusal (
-    (1, vertices? (h .vertices))
-    ∷ (2, longest? (h .longest))
-    ∷ (3, edgeMemory? (h .vertices) (m .edges))
+    (1, vertices? (size .vertices))
+    ∷ (2, longest? (size .longest))
+    ∷ (3, edgeMemory? (size .vertices) (m .edges))
     ∷ (17, leb (headBytes + tripleBytes * length (standing (m .edges))) (length (m .output)))
     ∷ []
     )
 
 -- "A written card touches only its own length of the output, and its length is returned."
-unfoldable pub writeCall : Header → Memory → Outcome Wrote
-writeCall h m =
-    let card = cardOf h (standing (m .edges)) in
-    refusing Refused m (writeRefusal h m)
+unfoldable pub writeCall : Size → Memory → Outcome Wrote
+writeCall size m =
+    let card = cardOf size (standing (m .edges)) in
+    refusing Refused m (writeRefusal size m)
     (record {
       reply = Length (length card);
       memory = record { edges = m .edges; index = m .index; work = m .work; output = card ++ drop (length card) (m .output) };

@@ -8,7 +8,7 @@ use Rattle.model.specs.Lists.{zeroed}
 use Rattle.model.specs.Edges.{standing}
 use Rattle.model.specs.Routes.{Routed, Yes, No, Refused}
 use Rattle.model.specs.Computed.Routes.{routeOf}
-use Rattle.calls.specs.Call.{Header, graphOf, Memory, cleared, Outcome, refusing}
+use Rattle.calls.specs.Call.{Size, graphOf, Memory, cleared, Outcome, refusing}
 use Rattle.calls.specs.Search.{searchRefusal}
 
 -- "one slot a leg holding that leg as leg memory writes it", "the slots behind it are untouched"
@@ -25,7 +25,7 @@ lighting (x ∷ es) m =
     (record { reply = Refused 18; memory = cleared m })
 
 -- "The checks are the plain check's."
-unfoldable pub routeCall : (h : Header) (start destination : ℕ) (pattern : List ℕ) → Memory → Outcome Routed
-routeCall h start destination pattern m =
-    refusing Refused m (searchRefusal h start destination pattern m)
-    (lighting (routeOf (graphOf h (standing (m .edges))) pattern start destination) m)
+unfoldable pub routeCall : (size : Size) (start destination : ℕ) (pattern : List ℕ) → Memory → Outcome Routed
+routeCall size start destination pattern m =
+    refusing Refused m (searchRefusal size start destination pattern m)
+    (lighting (routeOf (graphOf size (standing (m .edges))) pattern start destination) m)

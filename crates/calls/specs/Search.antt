@@ -10,20 +10,20 @@ use Rattle.model.specs.Computed.Edges.{edgeMemory?}
 use Rattle.model.specs.Computed.Patterns.{keyed?}
 use Rattle.model.specs.Computed.Levels.{levelReply}
 use Rattle.calls.specs.Checks.{vertices?, longest?, ends?, firstRefusal}
-use Rattle.calls.specs.Call.{Header, graphOf, Memory, cleared, Outcome, refusing}
+use Rattle.calls.specs.Call.{Size, graphOf, Memory, cleared, Outcome, refusing}
 
--- what the call is given: the record, start and destination, the pattern as keyed, and memory
-module _ (h : Header) (start destination : ℕ) (pattern : List ℕ) where
+-- what the call is given: the record's size (it does not look at totals), start and destination, the pattern as keyed, and memory
+module _ (size : Size) (start destination : ℕ) (pattern : List ℕ) where
   -- "Plain check 1 2 3 4 10 11."
   unfoldable pub searchRefusal : Memory → ℕ
   searchRefusal m =
       firstRefusal (
-      (1, vertices? (h .vertices))
-      ∷ (2, longest? (h .longest))
-      ∷ (3, edgeMemory? (h .vertices) (m .edges))
+      (1, vertices? (size .vertices))
+      ∷ (2, longest? (size .longest))
+      ∷ (3, edgeMemory? (size .vertices) (m .edges))
       ∷ (4, leb leastWork (length (m .work)))
-      ∷ (10, ends? (h .vertices) start destination)
-      ∷ (11, keyed? (h .longest) pattern)
+      ∷ (10, ends? (size .vertices) start destination)
+      ∷ (11, keyed? (size .longest) pattern)
       ∷ []
       )
 
@@ -33,6 +33,6 @@ module _ (h : Header) (start destination : ℕ) (pattern : List ℕ) where
   searchCall limit m =
       refusing Refused m (searchRefusal m)
       (record {
-        reply = levelReply (graphOf h (standing (m .edges))) pattern start destination limit;
+        reply = levelReply (graphOf size (standing (m .edges))) pattern start destination limit;
         memory = cleared m;
       })

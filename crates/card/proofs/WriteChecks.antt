@@ -6,14 +6,14 @@ use lib.ListN.{length}
 use Rattle.model.specs.Limits.{headBytes, tripleBytes}
 use Rattle.model.specs.Edges.{standing}
 use Rattle.model.proofs.Tests.{test-le, test-true, test-false}
-use Rattle.calls.specs.Call.{Header, Memory}
+use Rattle.calls.specs.Call.{Size, Memory}
 use Rattle.calls.specs.Card.{writeRefusal}
 use Rattle.calls.proofs.Checks.{none, pass, stop}
 use Rattle.checks.specs.LayoutChecks.{LayoutPasses}
 use Rattle.checks.proofs.LayoutChecks.{layout-pass, layout-memory}
 use Rattle.card.specs.Card.{WritePasses}
 
-module _ (h : Header) (m : Memory) {n : ℕ} (p : LayoutPasses (h .vertices) (h .longest) (m .edges) n) where
+module _ (h : Size) (m : Memory) {n : ℕ} (p : LayoutPasses (h .vertices) (h .longest) (m .edges) n) where
   pub write-short : length (m .output) < headBytes + tripleBytes * n → writeRefusal h m ≡ 17
   unfolding writeRefusal
   write-short k =

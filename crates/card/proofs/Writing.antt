@@ -13,7 +13,7 @@ use Rattle.model.proofs.Lists.{getD-in, part-all, part-last}
 use Rattle.model.proofs.Edges.{test-edge}
 use Rattle.memory.proofs.Mix.{Mixed, front-turn}
 use Rattle.memory.proofs.Copying.{copy-start, copy-end}
-use Rattle.calls.specs.Call.{Header}
+use Rattle.calls.specs.Call.{Size}
 use Rattle.calls.specs.Card.{edgeBytes, cardOf}
 use Rattle.calls.proofs.Card.{length-bytes, getD-bytes}
 use Rattle.card.specs.Card.{headOf, Body, Writable}
@@ -59,7 +59,7 @@ module _ {edges out : List ℕ} (p : Body edges out) where
         copy-end (bytes edges) out bytes-room m (omega (arith, length-bytes edges, h))
         ∙ ap (λ (k : ℕ). bytes edges ++ drop k out) (length-bytes edges)
 
-module _ {h : Header} {edges output : List ℕ} (p : Writable h edges output) where
+module _ {h : Size} {edges output : List ℕ} (p : Writable h edges output) where
   -- behind a head of nine bytes there is room for the edges
   pub body-lent : {out : List ℕ} → out ≡ headOf (h .vertices) (h .longest) (length edges) ++ drop headBytes output
       → Body edges (take (length out - headBytes) (drop headBytes out))

@@ -9,8 +9,8 @@ use Rattle.model.specs.Lists.{_∈_}
 use Rattle.model.specs.Edges.{Bounds, fromOf}
 use Rattle.model.specs.Replies.{numberOf}
 use Rattle.model.specs.Computed.Edges.{edge?}
-use Rattle.calls.specs.Call.{Header, Memory}
-use Rattle.calls.specs.Card.{mark, wordBytes, headerOf, countOf, cardRefusal, writeRefusal}
+use Rattle.calls.specs.Call.{Size, Memory}
+use Rattle.calls.specs.Card.{mark, wordBytes, sizeOf, countOf, cardRefusal, writeRefusal}
 use Rattle.checks.specs.LayoutChecks.{LayoutPasses}
 use Rattle.checks.specs.declared.Standing.{Standing}
 use Rattle.checks.specs.declared.Standing.the-variants.{Edges, Refused as NotStanding}
@@ -18,9 +18,9 @@ use Rattle.card.specs.declared.Checked.{Checked}
 use Rattle.card.specs.declared.Checked.the-variants.{Layout, Refused}
 
 -- all checks of the card alone have passed: its header, and the number of its edges
-pub record CardPasses (card : List ℕ) (h : Header) (n : ℕ) : Type 0 where
+pub record CardPasses (card : List ℕ) (h : Size) (n : ℕ) : Type 0 where
   pub is : cardRefusal card ≡ 0
-  pub header : h ≡ headerOf card
+  pub header : h ≡ sizeOf card
   pub count : n ≡ countOf card
 
 abbrev pub CardChecks : List ℕ → Checked → Type 0
@@ -33,7 +33,7 @@ pub record Fillable (card : List ℕ) (n : ℕ) (edges : List ℕ) : Type 0 wher
   pub room : n ≤ length edges
 
 -- a header and edges of its graph, whose card the output has room for
-pub record Writable (h : Header) (edges output : List ℕ) : Type 0 where
+pub record Writable (h : Size) (edges output : List ℕ) : Type 0 where
   pub bounds : Bounds (h .vertices) (h .longest)
   pub few : length edges ≤ mostEdges
   pub valid : (x : ℕ) → x ∈ edges → edge? (h .vertices) x ≡ true
@@ -54,11 +54,11 @@ pub record Body (edges output : List ℕ) : Type 0 where
   pub room : tripleBytes * length edges ≤ length output
 
 -- all checks of a card that is written have passed, and n edges stand
-pub record WritePasses (h : Header) (m : Memory) (n : ℕ) : Type 0 where
+pub record WritePasses (h : Size) (m : Memory) (n : ℕ) : Type 0 where
   pub is : writeRefusal h m ≡ 0
   pub layout : LayoutPasses (h .vertices) (h .longest) (m .edges) n
   pub room : headBytes + tripleBytes * n ≤ length (m .output)
 
-abbrev pub WriteChecks : Header → Memory → Standing → Type 0
+abbrev pub WriteChecks : Size → Memory → Standing → Type 0
 WriteChecks h m (Edges n) = WritePasses h m n
 WriteChecks h m (NotStanding r) = writeRefusal h m ≡ numberOf r

@@ -12,40 +12,40 @@ use Rattle.model.specs.declared.Refusal.{Refusal}
 use Rattle.model.proofs.Tests.{test-true}
 use Rattle.model.proofs.Edges.{edge-fields, test-edge}
 use Rattle.edges.proofs.Memory.{length-insert, member-insert, rising-insert, length-remove, member-remove, rising-remove}
-use Rattle.calls.specs.Call.{Header, Memory, Meets}
-use Rattle.calls.specs.Change.{refusedWith, answers, settle, openRefusal, openCall, insertRefusal, insertCall, removeRefusal, removeCall}
-use Rattle.calls.proofs.Calls.{accepted-is}
-use Rattle.calls.proofs.Change.{ChangeGood, change-refused}
+use Rattle.calls.specs.Call.{Size, Memory, Meets}
+use Rattle.calls.specs.Change.{settle, openRefusal, openChange, insertRefusal, insertChange, removeRefusal, removeChange}
+use Rattle.calls.proofs.Calls.{refused-meets, accepted-is}
+use Rattle.calls.proofs.Change.{ChangeGood}
 use Rattle.named.specs.Named.{Places, Takes}
 use Rattle.named.proofs.Naming.{good, memory, places-absent, takes-present}
 use Rattle.changes.proofs.Trying.{Wanted}
 
 -- ---- opening
 
-module _ (h : Header) (m : Memory) where
-  pub open-stops : (r : Refusal) → openRefusal h m ≡ numberOf r → Meets (answers (openCall h m)) (numberOf r) m
-  unfolding openCall
-  open-stops r e = change-refused (openRefusal h m) h m _ r e
+module _ (h : Size) (m : Memory) where
+  pub open-stops : (r : Refusal) → openRefusal h m ≡ numberOf r → Meets (openChange h m) (numberOf r) m
+  unfolding openChange
+  open-stops r e = refused-meets (λ n. n) m _ (openRefusal h m) r e
 
   pub open-leaves : {m′ : Memory} → openRefusal h m ≡ 0 → m′ .edges ≡ zeroed (m .edges) → m′ .index ≡ zeroed (m .index) → m′ .work ≡ m .work
-      → m′ .output ≡ m .output → Meets (answers (openCall h m)) 0 m′
-  unfolding openCall
+      → m′ .output ≡ m .output → Meets (openChange h m) 0 m′
+  unfolding openChange
   open-leaves e a b c d =
-      rw (accepted-is (refusedWith h) m _ (openRefusal h m) e) (record { reply-is = refl; edges-after = a; index-after = b; work-after = c; output-after = d })
+      rw (accepted-is (λ n. n) m _ (openRefusal h m) e) (record { reply-is = refl; edges-after = a; index-after = b; work-after = c; output-after = d })
 
 -- ---- insertion and removal
 
 -- a refusal leaves memory alone
-module _ (h : Header) (from label to : ℕ) (m : Memory) where
-  pub insert-stops : (r : Refusal) → insertRefusal h from label to m ≡ numberOf r → Meets (answers (insertCall h from label to m)) (numberOf r) m
-  unfolding insertCall
-  insert-stops r e = change-refused (insertRefusal h from label to m) h m _ r e
+module _ (h : Size) (from label to : ℕ) (m : Memory) where
+  pub insert-stops : (r : Refusal) → insertRefusal h from label to m ≡ numberOf r → Meets (insertChange h from label to m) (numberOf r) m
+  unfolding insertChange
+  insert-stops r e = refused-meets (λ n. n) m _ (insertRefusal h from label to m) r e
 
-  pub remove-stops : (r : Refusal) → removeRefusal h from label to m ≡ numberOf r → Meets (answers (removeCall h from label to m)) (numberOf r) m
-  unfolding removeCall
-  remove-stops r e = change-refused (removeRefusal h from label to m) h m _ r e
+  pub remove-stops : (r : Refusal) → removeRefusal h from label to m ≡ numberOf r → Meets (removeChange h from label to m) (numberOf r) m
+  unfolding removeChange
+  remove-stops r e = refused-meets (λ n. n) m _ (removeRefusal h from label to m) r e
 
-module _ {h : Header} {from label to : ℕ} {m : Memory} where
+module _ {h : Size} {from label to : ℕ} {m : Memory} where
   -- the named edge is one of the graph
   named-edge : ChangeGood h from label to m → edge? (h .vertices) (edgeNumber from label to) ≡ true
   named-edge g =
@@ -74,10 +74,10 @@ module _ {h : Header} {from label to : ℕ} {m : Memory} where
         }
 
     pub insert-leaves : Places h from label to m n at → {k : ℕ} {left : Memory}
-        → Meets (answers (settle h h (insertEdge (edgeNumber from label to) (standing (m .edges))) m)) k left
-        → Meets (answers (insertCall h from label to m)) k left
-    unfolding insertCall
-    insert-leaves p l = rw (accepted-is (refusedWith h) m _ (insertRefusal h from label to m) (p .is)) l
+        → Meets (settle h (insertEdge (edgeNumber from label to) (standing (m .edges))) m) k left
+        → Meets (insertChange h from label to m) k left
+    unfolding insertChange
+    insert-leaves p l = rw (accepted-is (λ n. n) m _ (insertRefusal h from label to m) (p .is)) l
 
     pub remove-wanted : Takes h from label to m n at → Wanted h (removeEdge (edgeNumber from label to) (standing (m .edges))) m (n - 1)
     remove-wanted p =
@@ -95,7 +95,7 @@ module _ {h : Header} {from label to : ℕ} {m : Memory} where
         }
 
     pub remove-leaves : Takes h from label to m n at → {k : ℕ} {left : Memory}
-        → Meets (answers (settle h h (removeEdge (edgeNumber from label to) (standing (m .edges))) m)) k left
-        → Meets (answers (removeCall h from label to m)) k left
-    unfolding removeCall
-    remove-leaves p l = rw (accepted-is (refusedWith h) m _ (removeRefusal h from label to m) (p .is)) l
+        → Meets (settle h (removeEdge (edgeNumber from label to) (standing (m .edges))) m) k left
+        → Meets (removeChange h from label to m) k left
+    unfolding removeChange
+    remove-leaves p l = rw (accepted-is (λ n. n) m _ (removeRefusal h from label to m) (p .is)) l

@@ -7,17 +7,16 @@ use native.Mathlib.Omega.{arith}
 use lib.Dec.{leb}
 use lib.ListN.{length, getD, drop}
 use Rattle.model.specs.Limits.{mostEdges, leastWork, headBytes}
-use Rattle.model.specs.Replies.{numberOf, answerOf}
+use Rattle.model.specs.Replies.{numberOf}
 use Rattle.model.specs.declared.Refusal.{Refusal}
-use Rattle.model.specs.declared.Answer.{Answer}
 use Rattle.model.proofs.Tests.{test-le, test-true, test-false, test-yields}
 use Rattle.model.proofs.Replies.{number-some}
-use Rattle.calls.specs.Call.{Header, Memory, Meets, noRecord}
-use Rattle.calls.specs.Change.{refusedWith, answers, buildRoom?, settle}
-use Rattle.calls.specs.Card.{headerOf, countOf, edgesOf, cardChecks, cardRefusal, readRefusal, readCall}
+use Rattle.calls.specs.Call.{Size, Memory, Meets}
+use Rattle.calls.specs.Change.{buildRoom?, settle}
+use Rattle.calls.specs.Card.{sizeOf, countOf, edgesOf, cardChecks, cardRefusal, readRefusal, readChange}
 use Rattle.calls.proofs.Checks.{none, pass, stop, first-is, Passed, done, also, passes}
 use Rattle.calls.proofs.Calls.{refused-meets, accepted-is}
-use Rattle.calls.proofs.Change.{stop-first, pass-first, front-passes, handedBy, with-header, settle-hands}
+use Rattle.calls.proofs.Change.{stop-first, pass-first, front-passes}
 use Rattle.calls.proofs.Card.{CardGood, card-good, triples-good}
 use Rattle.card.specs.Card.{Fillable}
 use Rattle.changes.specs.Changes.{Reads}
@@ -83,14 +82,14 @@ good card m e = go (passes _ tt (sym (pass-first (cardChecks card) _ tt alone) �
 
 -- ---- the edges of the card, and what is left
 
-module _ {card : List ℕ} {m : Memory} {h : Header} {n : ℕ} (p : Reads card m h n) where
+module _ {card : List ℕ} {m : Memory} {h : Size} {n : ℕ} (p : Reads card m h n) where
   pub read-fillable : Fillable card n (m .edges)
   read-fillable = rw (p .count) (record { whole = good card m (p .is) .alone .whole; room = good card m (p .is) .fits })
 
   -- the byte of the vertices is a byte
   pub read-wanted : getD card 5 0 < 256 → Wanted h (edgesOf (drop headBytes card)) m n
   read-wanted b = rw (p .header) (let g = good card m (p .is) in
-      let l = triples-good (headerOf card .vertices) 0 (drop headBytes card) (g .alone .triples) (omega (arith, b)) in
+      let l = triples-good (sizeOf card .vertices) 0 (drop headBytes card) (g .alone .triples) (omega (arith, b)) in
       record {
         count = p .count ∙ sym (g .alone .count);
         header = record { vertices-least = omega arith; vertices-most = omega (arith, b); longest-least = g .alone .longest-least; longest-most = g .alone .longest-most };
@@ -101,14 +100,10 @@ module _ {card : List ℕ} {m : Memory} {h : Header} {n : ℕ} (p : Reads card m
         room = g .room;
       })
 
-  -- by an answer that is known
-  pub read-leaves : (r : Answer) {m′ : Memory} → Meets (answers (settle noRecord h (edgesOf (drop headBytes card)) m)) (answerOf r) m′
-      → Meets (readCall card m) (record { header = handedBy r noRecord h; answer = answerOf r }) m′
-  unfolding readCall
-  read-leaves r l =
-      rw (accepted-is (refusedWith noRecord) m _ (readRefusal card m) (p .is), sym (p .header))
-      (with-header (settle noRecord h (edgesOf (drop headBytes card)) m) (settle-hands noRecord h (edgesOf (drop headBytes card)) m r (l .reply-is)) l)
+  pub read-leaves : {k : ℕ} {left : Memory} → Meets (settle h (edgesOf (drop headBytes card)) m) k left → Meets (readChange card m) k left
+  unfolding readChange
+  read-leaves l = rw (accepted-is (λ n. n) m _ (readRefusal card m) (p .is), sym (p .header)) l
 
-pub refused-leaves : (card : List ℕ) (m : Memory) (r : Refusal) → readRefusal card m ≡ numberOf r → Meets (readCall card m) (refusedWith noRecord (numberOf r)) m
-unfolding readCall
-refused-leaves card m r e = refused-meets (refusedWith noRecord) m _ (readRefusal card m) r e
+pub refused-leaves : (card : List ℕ) (m : Memory) (r : Refusal) → readRefusal card m ≡ numberOf r → Meets (readChange card m) (numberOf r) m
+unfolding readChange
+refused-leaves card m r e = refused-meets (λ n. n) m _ (readRefusal card m) r e

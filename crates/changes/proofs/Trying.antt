@@ -11,14 +11,14 @@ use Rattle.model.specs.Lists.{_∈_, Rising, filled}
 use Rattle.model.specs.Edges.{Bounds}
 use Rattle.model.specs.Computed.Edges.{edge?}
 use Rattle.model.proofs.Memory.{length-filled}
-use Rattle.calls.specs.Call.{Header, Memory, lent, Meets, noRecord}
-use Rattle.calls.specs.Change.{answers, settle}
+use Rattle.calls.specs.Call.{Size, Memory, lent, Meets}
+use Rattle.calls.specs.Change.{settle}
 use Rattle.calls.proofs.Change.{settle-same}
 use Rattle.rows.specs.Region.{savedNumbers}
 use Rattle.settle.specs.Settle.{savedIn, Saves, Settleable}
 
 -- n wanted edges, and memory as the call finds it
-pub record Wanted (h : Header) (wanted : List ℕ) (m : Memory) (n : ℕ) : Type 0 where
+pub record Wanted (h : Size) (wanted : List ℕ) (m : Memory) (n : ℕ) : Type 0 where
   pub count : n ≡ length wanted
   pub header : Bounds (h .vertices) (h .longest)
   pub few : length (m .edges) ≤ mostEdges
@@ -33,12 +33,12 @@ pub record Tried (wanted : List ℕ) (m : Memory) (edges work : List ℕ) : Type
   pub saves : Saves (m .edges) (m .work) work
 
 -- edge memory can be saved
-pub save-room : {h : Header} {wanted : List ℕ} {m : Memory} {n : ℕ} → Wanted h wanted m n → savedNumbers + length (m .edges) ≤ length (m .work)
+pub save-room : {h : Size} {wanted : List ℕ} {m : Memory} {n : ℕ} → Wanted h wanted m n → savedNumbers + length (m .edges) ≤ length (m .work)
 save-room w = omega (arith, w .few, w .room)
 
 -- ---- settling
 
-module _ {h : Header} {wanted : List ℕ} {m : Memory} {n : ℕ} {edges work : List ℕ} (w : Wanted h wanted m n) (t : Tried wanted m edges work) where
+module _ {h : Size} {wanted : List ℕ} {m : Memory} {n : ℕ} {edges work : List ℕ} (w : Wanted h wanted m n) (t : Tried wanted m edges work) where
   long : length edges ≡ length (m .edges)
   long = ap length (t .edges-are) ∙ length-filled (length (m .edges)) wanted (w .fits)
 
@@ -61,6 +61,6 @@ module _ {h : Header} {wanted : List ℕ} {m : Memory} {n : ℕ} {edges work : L
         narrow = rw saved-is (t .saves .narrow);
       }
 
-  pub settled : (given : Header) {k : ℕ} {left : Memory} → m .output ≡ []
-      → Meets (answers (settle noRecord h (take n edges) (lent (savedIn work edges) (m .index) work))) k left → Meets (answers (settle given h wanted m)) k left
-  settled given e s = settle-same noRecord given h wanted _ m saved-is refl (t .saves .work-long) (sym e) (rw front at s)
+  pub settled : {k : ℕ} {left : Memory} → m .output ≡ []
+      → Meets (settle h (take n edges) (lent (savedIn work edges) (m .index) work)) k left → Meets (settle h wanted m) k left
+  settled e s = settle-same h wanted _ m saved-is refl (t .saves .work-long) (sym e) (rw front at s)

@@ -8,9 +8,8 @@ use named::Slot;
 ghost use mathlib.Core.List.{[]};
 ghost use Rattle.model.specs.Replies.{answerOf};
 ghost use Rattle.calls.specs.Call.{lent, Meets};
-ghost use Rattle.calls.specs.Change.{answers, openCall, insertCall, removeCall};
-ghost use Rattle.calls.specs.Card.{readCall};
-ghost use Rattle.changes.specs.Changes.{Readings, cardReturned};
+ghost use Rattle.calls.specs.Change.{openChange, insertChange, removeChange};
+ghost use Rattle.changes.specs.Changes.{Readings, ReadsCard};
 
 // A card's vertices, longest pattern and number of edges, or the refusal.
 enum Layout {
@@ -46,7 +45,7 @@ fn check_read(card: &[u8], edges: &[u32], index: &[u64], work: &[u64]) -> Layout
 // Opening.
 pub fn open(vertices: u32, longest: u32, edges: &mut [u32], index: &mut [u64]) -> Answer
     ensures { λ r. ⌜
-        Meets (answers (openCall (record { vertices = vertices; longest = longest }) (lent (now (edges .entry)) (now (index .entry)) [])))
+        Meets (openChange (record { vertices = vertices; longest = longest }) (lent (now (edges .entry)) (now (index .entry)) []))
         (answerOf r) (lent (now (edges .exit)) (now (index .exit)) [])
         ⌝ }
 {
@@ -74,8 +73,8 @@ pub fn insert(
     work: &mut [u64],
 ) -> Answer
     ensures { λ r. ⌜
-        Meets (answers (insertCall (record { vertices = vertices; longest = longest }) from label to
-        (lent (now (edges .entry)) (now (index .entry)) (now (work .entry)))))
+        Meets (insertChange (record { vertices = vertices; longest = longest }) from label to
+        (lent (now (edges .entry)) (now (index .entry)) (now (work .entry))))
         (answerOf r) (lent (now (edges .exit)) (now (index .exit)) (now (work .exit)))
         ⌝ }
 {
@@ -102,8 +101,8 @@ pub fn remove(
     work: &mut [u64],
 ) -> Answer
     ensures { λ r. ⌜
-        Meets (answers (removeCall (record { vertices = vertices; longest = longest }) from label to
-        (lent (now (edges .entry)) (now (index .entry)) (now (work .entry)))))
+        Meets (removeChange (record { vertices = vertices; longest = longest }) from label to
+        (lent (now (edges .entry)) (now (index .entry)) (now (work .entry))))
         (answerOf r) (lent (now (edges .exit)) (now (index .exit)) (now (work .exit)))
         ⌝ }
 {
@@ -118,7 +117,7 @@ pub fn remove(
     }
 }
 
-// A card reading's answer, with the card's numbers if it is accepted and zeros, no record, if it is refused.
+// A card reading's answer, and the card's numbers, which count if it is accepted.
 pub struct CardRead {
     pub vertices: u32,
     pub longest: u32,
@@ -128,8 +127,8 @@ pub struct CardRead {
 // Card reading.
 pub fn read(card: &[u8], edges: &mut [u32], index: &mut [u64], work: &mut [u64]) -> CardRead
     ensures { λ r. ⌜
-        Meets (readCall (now (card .entry)) (lent (now (edges .entry)) (now (index .entry)) (now (work .entry))))
-        (cardReturned r) (lent (now (edges .exit)) (now (index .exit)) (now (work .exit)))
+        ReadsCard (now (card .entry)) (lent (now (edges .entry)) (now (index .entry)) (now (work .entry)))
+        r (lent (now (edges .exit)) (now (index .exit)) (now (work .exit)))
         ⌝ }
 {
     let layout = check_read(card, edges, index, work);
@@ -143,17 +142,10 @@ pub fn read(card: &[u8], edges: &mut [u32], index: &mut [u64], work: &mut [u64])
             settle::save(edges, work);
             card::fill(card, n, edges);
             let answer = settle::settle(vertices, longest, n, edges, index, work);
-            if let Answer::Refused(refusal) = answer {
-                return CardRead {
-                    vertices: 0,
-                    longest: 0,
-                    answer: Answer::Refused(refusal),
-                };
-            }
             CardRead {
                 vertices: vertices,
                 longest: longest,
-                answer: Answer::Accepted,
+                answer: answer,
             }
         }
     }

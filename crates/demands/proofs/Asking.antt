@@ -1,4 +1,4 @@
--- The question on any record and memory: what its checks leave, and what it replies once they have passed.
+-- The full question on any record and memory: what its checks leave, and what it replies once they have passed.
 use mathlib.Core.Path.{_≡_, refl, ap}
 use mathlib.Core.Bool.{Bool, true, false, _||_}
 use mathlib.Core.List.{List, [], _∷_}
@@ -19,8 +19,8 @@ use Rattle.model.proofs.Tests.{Tests, test-true, test-false}
 use Rattle.model.proofs.Patterns.{test-once}
 use Rattle.model.proofs.Search.{test-runs}
 use Rattle.calls.specs.Checks.{vertices?, longest?, ends?, Check}
-use Rattle.calls.specs.Call.{Header, graphOf, Memory}
-use Rattle.calls.specs.Query.{saying, queryRefusal, byIndex, bySearch, queryCall}
+use Rattle.calls.specs.Call.{Size, graphOf, Memory}
+use Rattle.calls.specs.Query.{saying, fullRefusal, byIndex, bySearch, fullCall}
 use Rattle.calls.proofs.Query.{Allowed, allowed, within}
 use Rattle.calls.proofs.Passing.{passing}
 use Rattle.demands.specs.Demand1.{queryNumber}
@@ -46,7 +46,11 @@ module _ {g : Graph} {l : List ℕ} {s t : ℕ} where
   runs-judged (runs p) q = refl
   runs-judged (runs-not d) q = absurd (d q)
 
-module _ (h : Header) (s t : ℕ) (l : List ℕ) (m : Memory) where
+  pub not-judged : {r : Answered} → Judged g l s t r → ¬ Runs g l s t → r ≡ No
+  not-judged (runs p) d = absurd (d p)
+  not-judged (runs-not _) d = refl
+
+module _ (h : Size) (s t : ℕ) (l : List ℕ) (m : Memory) where
   abbrev checks : List Check
   checks =
       (1, vertices? (h .vertices))
@@ -59,36 +63,36 @@ module _ (h : Header) (s t : ℕ) (l : List ℕ) (m : Memory) where
       ∷ []
 
   -- a refusal is told
-  pub number-refuses : {n : ℕ} → queryRefusal h s t l m ≡ suc n → queryCall h s t l m .reply ≡ Refused (suc n)
-  unfolding queryCall
+  pub number-refuses : {n : ℕ} → fullRefusal h s t l m ≡ suc n → fullCall h s t l m .reply ≡ Refused (suc n)
+  unfolding fullCall
   number-refuses e = rw e refl
 
   -- a reply that is no refusal: none of the checks refuses
-  pub unrefused : queryNumber (queryCall h s t l m .reply) ≡ 0 → queryRefusal h s t l m ≡ 0
-  unrefused e = go (queryRefusal h s t l m) refl
+  pub unrefused : queryNumber (fullCall h s t l m .reply) ≡ 0 → fullRefusal h s t l m ≡ 0
+  unrefused e = go (fullRefusal h s t l m) refl
     where
-      go : (n : ℕ) → queryRefusal h s t l m ≡ n → queryRefusal h s t l m ≡ 0
+      go : (n : ℕ) → fullRefusal h s t l m ≡ n → fullRefusal h s t l m ≡ 0
       go zero q = q
       go (suc n) q = absurd (let z : suc n ≡ 0 = rw (number-refuses q) at e in omega (arith, z))
 
-  module _ (none : queryRefusal h s t l m ≡ 0) where
+  module _ (none : fullRefusal h s t l m ≡ 0) where
     given : Allowed h s t l
-    given = let (v, (k, (ends, (keyed, _)))) = passing checks tt (unfold queryRefusal in none) in allowed h s t l v k ends keyed
+    given = let (v, (k, (ends, (keyed, _)))) = passing checks tt (unfold fullRefusal in none) in allowed h s t l v k ends keyed
 
     own? : Tests (once? l) (MinRepeat l l)
     own? = test-once l (within (given .bounds) (given .keyed))
 
     -- by a pattern that is its own minimum repeat, the index's reply; by one that is not, the search's
-    pub once-is : MinRepeat l l → queryCall h s t l m ≡ byIndex h s t l m
-    unfolding queryCall
+    pub once-is : MinRepeat l l → fullCall h s t l m ≡ byIndex h s t l m
+    unfolding fullCall
     once-is own = rw (none, test-true own? own) refl
 
-    pub repeats-is : ¬ MinRepeat l l → queryCall h s t l m ≡ bySearch h s t l m
-    unfolding queryCall
+    pub repeats-is : ¬ MinRepeat l l → fullCall h s t l m ≡ bySearch h s t l m
+    unfolding fullCall
     repeats-is more = rw (none, test-false own? more) refl
 
     -- which is right about the edges that stand
-    pub search-right : ¬ MinRepeat l l → Judged (graphOf h (standing (m .edges))) l s t (queryCall h s t l m .reply)
+    pub search-right : ¬ MinRepeat l l → Judged (graphOf h (standing (m .edges))) l s t (fullCall h s t l m .reply)
     search-right more =
         let a = given in
         let g = graphOf h (standing (m .edges)) in

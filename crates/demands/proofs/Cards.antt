@@ -13,8 +13,8 @@ use Rattle.model.specs.Computed.Entries.{determined}
 use Rattle.model.proofs.Tests.{test-true, test-false, test-yields, test-fails, test-and, test-eq, test-le, test-lt, test-T}
 use Rattle.calls.specs.Checks.{Check, firstRefusal}
 use Rattle.calls.specs.Call.{Memory, graphOf, noRecord}
-use Rattle.calls.specs.Change.{buildRoom?, fits?}
-use Rattle.calls.specs.Card.{marked?, headerOf, countOf, edgesOf, risingTriples?, cardEdges?, cardChecks, readRefusal, readCall}
+use Rattle.calls.specs.Change.{handing, buildRoom?, fits?}
+use Rattle.calls.specs.Card.{marked?, sizeOf, countOf, edgesOf, risingTriples?, cardEdges?, cardChecks, readRefusal, readChange, readCall}
 use Rattle.calls.proofs.Checks.{test-longest}
 use Rattle.calls.proofs.Card.{marked-short, marked-at, card-edges-long, card-edges-body, triples-good, length-edges, card-vertices}
 use Rattle.calls.proofs.Settling.{Result, settledChange, settled}
@@ -61,15 +61,15 @@ module _ (card : List ℕ) (bytes : Bytes card) (work : List ℕ) where
     size : length card ≡ 9 + 3 * n
     count : length wanted ≡ n
     edges-are : map (nthEdge card) (upTo n) ≡ wanted
-    valid : EdgesOf (headerOf card .vertices) wanted
+    valid : EdgesOf (sizeOf card .vertices) wanted
     rises : rising wanted ≡ wanted
 
   whole : cardEdges? card ≡ true → WholeCard
   unfolding cardEdges?
   whole e =
-      let (a, b) = test-yields (test-and (test-eq (length card) (9 + 3 * n)) (test-T (risingTriples? (headerOf card .vertices) 0 (drop headBytes card)))) e in
-      let good = triples-good (headerOf card .vertices) 0 (drop headBytes card) (test-true (test-T (risingTriples? (headerOf card .vertices) 0 (drop headBytes card))) b) (card-vertices card bytes) in
-      let valid : EdgesOf (headerOf card .vertices) wanted = λ x m. good .each x m .1 in
+      let (a, b) = test-yields (test-and (test-eq (length card) (9 + 3 * n)) (test-T (risingTriples? (sizeOf card .vertices) 0 (drop headBytes card)))) e in
+      let good = triples-good (sizeOf card .vertices) 0 (drop headBytes card) (test-true (test-T (risingTriples? (sizeOf card .vertices) 0 (drop headBytes card))) b) (card-vertices card bytes) in
+      let valid : EdgesOf (sizeOf card .vertices) wanted = λ x m. good .each x m .1 in
       record {
         size = a;
         count = length-edges n (drop headBytes card) (length-drop headBytes card ∙ (omega (arith, a)));
@@ -78,7 +78,7 @@ module _ (card : List ℕ) (bytes : Bytes card) (work : List ℕ) where
         rises = rising-is wanted (card-vertices card bytes) valid (good .rising) (λ x m. m) (λ x m. m);
       }
 
-  book-entries : WholeCard → bookEntries (cardBook card) ≡ determined (graphOf (headerOf card) wanted)
+  book-entries : WholeCard → bookEntries (cardBook card) ≡ determined (graphOf (sizeOf card) wanted)
   unfolding cardBook
   book-entries w = rw (w .edges-are, w .rises) refl
 
@@ -92,7 +92,7 @@ module _ (card : List ℕ) (bytes : Bytes card) (work : List ℕ) where
         ++ ((3, leb (length (m .edges)) mostEdges) ∷ (9, leb (countOf card) (length (m .edges))) ∷ (4, buildRoom? m) ∷ [])
 
     abbrev allChecks : List Check
-    allChecks = readChecks ++ ((13, fits? (headerOf card) wanted m) ∷ [])
+    allChecks = readChecks ++ ((13, fits? (sizeOf card) wanted m) ∷ [])
 
     read-gives : Gives allChecks (cardNumber card (fedBy slots room reads))
     unfolding cardNumber
@@ -115,19 +115,20 @@ module _ (card : List ℕ) (bytes : Bytes card) (work : List ℕ) where
         four : narrow (fedBy slots room reads) ≡ not (buildRoom? m)
         four = rw long (above-not (leastWork + room) (length work))
 
-        thirteen : WholeCard → full (cardBook card) (fedBy slots room reads) ≡ not (fits? (headerOf card) wanted m)
-        thirteen w = rw (book-entries w, long) (above-not (length (determined (graphOf (headerOf card) wanted))) room)
+        thirteen : WholeCard → full (cardBook card) (fedBy slots room reads) ≡ not (fits? (sizeOf card) wanted m)
+        thirteen w = rw (book-entries w, long) (above-not (length (determined (graphOf (sizeOf card) wanted))) room)
 
-    read-reaches : firstRefusal allChecks ≡ 0 → Reaches slots room (settledChange (headerOf card) wanted m) (cardBook card)
+    read-reaches : firstRefusal allChecks ≡ 0 → Reaches slots room (sizeOf card) (settledChange (sizeOf card) wanted m) (cardBook card)
     unfolding cardBook
     read-reaches e =
         let (_, (_, (k, (edges, (few, (nine, (_, (held, _)))))))) = passing allChecks tt e in
         let w = whole edges in
-        let (c, d) = test-yields (test-longest (headerOf card .longest)) k in
+        let (c, d) = test-yields (test-longest (sizeOf card .longest)) k in
         let space : n ≤ slots = rw wide at (test-yields (test-le (countOf card) (length (s .edges))) nine) in
         let is : rising (map (nthEdge card) (upTo n)) ≡ wanted = rw (w .edges-are) (w .rises) in
         record {
-          reply = refl;
+          answer = refl;
+          size-is = refl;
           edges = rw (wide, is) refl;
           index = rw (long, is) refl;
           fine = record {
@@ -135,24 +136,24 @@ module _ (card : List ℕ) (bytes : Bytes card) (work : List ℕ) where
             few = rw wide at (test-yields (test-le (length (s .edges)) mostEdges) few);
             valid = rw (w .edges-are) (w .valid);
             fits = rw is (omega (arith, w .count, space));
-            held = rw is (rw long at (test-yields (test-le (length (determined (graphOf (headerOf card) wanted))) (length (s .index))) held));
+            held = rw is (rw long at (test-yields (test-le (length (determined (graphOf (sizeOf card) wanted))) (length (s .index))) held));
           };
         }
 
-    read-result : Result (readCall card m) noRecord m (settledChange (headerOf card) wanted m) (firstRefusal allChecks)
-    unfolding readCall readRefusal
-    read-result = settled noRecord (headerOf card) wanted m readChecks tt
+    read-result : Result (readCall card m) noRecord m (handing noRecord (sizeOf card) (settledChange (sizeOf card) wanted m)) (firstRefusal allChecks)
+    unfolding readCall readChange readRefusal
+    read-result = settled noRecord (sizeOf card) wanted m readChecks tt
 
     pub read-begins : (b : Book) → cardNumber card (fedBy slots room reads) ≡ 0
         → Matches slots room s (reads .given) (readCall card m) (turn b (fedBy slots room reads))
     unfolding turn
     read-begins b e =
         let z : firstRefusal allChecks ≡ 0 = read-gives .is ∙ e in
-        rw (sym (read-gives .is)) (begins b (cardBook card) (reads .given) noRecord nothing (λ n. refl) read-result z (read-reaches z))
+        rw (sym (read-gives .is)) (begins b (cardBook card) (reads .given) noRecord (sizeOf card) nothing (λ n. refl) read-result z (read-reaches z))
 
     pub read-first : (b : Book) → replyTo (reads .given) (readCall card m .reply) ≡ turn b (fedBy slots room reads) .reply
     unfolding turn
-    read-first b = rw (sym (read-gives .is)) (first-reply b (cardBook card) (reads .given) noRecord nothing (λ n. refl) (firstRefusal allChecks) s read-result read-reaches)
+    read-first b = rw (sym (read-gives .is)) (first-reply b (cardBook card) (reads .given) noRecord (sizeOf card) nothing (λ n. refl) (firstRefusal allChecks) s read-result read-reaches)
 
   pub read-matches : {slots room : ℕ} {b : Book} → Fine slots room b
       → Matches slots room (stationOf slots room b) (reads .given) (readCall card (memoryOf (stationOf slots room b) work)) (turn b (fedBy slots room reads))
@@ -160,5 +161,5 @@ module _ (card : List ℕ) (bytes : Bytes card) (work : List ℕ) where
   read-matches {slots} {room} {b} f =
       let s = stationOf slots room b in
       rw (sym (read-gives s (edge-slots f) (index-slots f) .is))
-      (matches b (cardBook card) (reads .given) noRecord nothing (λ n. refl) (firstRefusal (allChecks s (edge-slots f) (index-slots f))) (read-result s (edge-slots f) (index-slots f)) f
+      (matches b (cardBook card) (reads .given) noRecord (sizeOf card) nothing (λ n. refl) (firstRefusal (allChecks s (edge-slots f) (index-slots f))) (read-result s (edge-slots f) (index-slots f)) f
       (read-reaches s (edge-slots f) (index-slots f)))

@@ -11,23 +11,26 @@ use lib.Dec.{T, eqb}
 use Rattle.model.specs.Lists.{zeroed}
 use Rattle.model.specs.Edges.{Graph, standing}
 use Rattle.model.specs.Routes.{Routed, Yes as RoutedYes, No as RoutedNo, Refused as RoutedRefused}
+use Rattle.model.specs.Patterns.{MinRepeat}
 use Rattle.model.specs.Query.{Answered}
 use Rattle.model.specs.States.{Reply, Refused}
 use Rattle.model.specs.Computed.Patterns.{once?}
 use Rattle.model.specs.Computed.Levels.{runs?}
 use Rattle.model.specs.Computed.Query.{answers?}
 use Rattle.model.specs.Levels.{Told, found, ended, stopped}
-use Rattle.model.proofs.Tests.{Tests, test-and, test-or, test-not, test-eq, test-T, both-ways}
+use Rattle.model.proofs.Tests.{Tests, test-yields, test-fails, test-and, test-or, test-not, test-eq, test-T, both-ways}
 use Rattle.model.proofs.Search.{told}
 use Rattle.calls.specs.Checks.{Check, firstRefusal}
-use Rattle.calls.specs.Call.{Header, graphOf, Memory, cleared, Outcome, refusing, Returned, Wrote, Length, Refused as NotWritten}
+use Rattle.calls.specs.Call.{Size, Header, graphOf, Memory, cleared, Outcome, refusing, Wrote, Length, Refused as NotWritten}
 use Rattle.calls.specs.Search.{searchRefusal, searchCall}
 use Rattle.calls.specs.Route.{lit, lighting, routeCall}
-use Rattle.calls.specs.Query.{saying, queryRefusal, queryCall}
-use Rattle.calls.specs.Change.{refusedWith, fits?, settle, openRefusal, openCall, insertRefusal, insertCall, removeRefusal, removeCall}
-use Rattle.calls.specs.Card.{readRefusal, readCall, cardOf, writeRefusal, writeCall}
+use Rattle.calls.specs.Query.{saying, askRefusal, fullRefusal, fullCall, lacking?, queryCall}
+use Rattle.calls.specs.Change.{handing, fits?, settle, openRefusal, openChange, openCall, insertRefusal, insertChange, insertCall, removeRefusal, removeChange, removeCall}
+use Rattle.calls.specs.Card.{readRefusal, readChange, readCall, cardOf, writeRefusal, writeCall}
+use Rattle.calls.proofs.Change.{handed-some}
+use Rattle.calls.proofs.Query.{test-lacking, query-refuses, query-lacking, query-full}
 use Rattle.calls.proofs.Route.{LightingCase, nothing, fits, too-long, lighting-case}
-use Rattle.demands.specs.Demand1.{Zeroing, Keeps, ChangeKeeps, searchNumber, queryNumber, routeNumber, writeNumber, Leaves, LeavesWalk, Demand1}
+use Rattle.demands.specs.Demand1.{Zeroing, Keeps, ChangeKeeps, Lacks, searchNumber, queryNumber, routeNumber, writeNumber, Leaves, LeavesWalk, Demand1}
 use Rattle.demands.proofs.Asking.{number-refuses, once-is, repeats-is}
 
 -- an accepted call refuses nothing
@@ -36,21 +39,33 @@ accepted-keeps e = record { refused = λ k _. absurd (omega (arith, e)); zeroing
 
 -- ---- changing calls
 
+-- a change, which tells its answer alone
+record AnswerKeeps (m : Memory) (c : Outcome ℕ) : Type 0 where
+  keeps : Keeps m c (c .reply)
+  accepted : c .reply ≡ 0 → c .memory .work ≡ zeroed (m .work)
+
+-- as a call that hands back the record
+handing-keeps : (given : Header) (size : Size) (m : Memory) (c : Outcome ℕ) → AnswerKeeps m c → ChangeKeeps given m (handing given size c)
+handing-keeps given size m c k =
+    record {
+      keeps = record { refused = k .keeps .refused; zeroing = k .keeps .zeroing };
+      header = handed-some given size (c .memory .edges) (c .reply);
+      accepted = k .accepted;
+    }
+
 -- settling: its only refusal is 13
-settle-keeps : (given h : Header) (wanted : List ℕ) (m : Memory) → ChangeKeeps given m (settle given h wanted m)
+settle-keeps : (h : Size) (wanted : List ℕ) (m : Memory) → AnswerKeeps m (settle h wanted m)
 unfolding settle
-settle-keeps given h wanted m = go (fits? h wanted m) refl
+settle-keeps h wanted m = go (fits? h wanted m) refl
   where
-    go : (b : Bool) → fits? h wanted m ≡ b → ChangeKeeps given m (settle given h wanted m)
-    go true e = rw e (record { keeps = accepted-keeps refl; header = λ k. absurd (omega arith); accepted = λ _. refl })
-    go false e =
-        rw e (record { keeps = record { refused = λ _ d. absurd (d (inl refl)); zeroing = λ _. refl }; header = λ _. refl; accepted = λ q. absurd (omega (arith, q)) })
+    go : (b : Bool) → fits? h wanted m ≡ b → AnswerKeeps m (settle h wanted m)
+    go true e = rw e (record { keeps = accepted-keeps refl; accepted = λ _. refl })
+    go false e = rw e (record { keeps = record { refused = λ _ d. absurd (d (inl refl)); zeroing = λ _. refl }; accepted = λ q. absurd (omega (arith, q)) })
 
 -- a refusal by the checks, none of which zeroes work memory
-with-keeps : (n : ℕ) → ¬ Zeroing n → (given : Header) (m : Memory) (c : Outcome Returned) → ChangeKeeps given m c → ChangeKeeps given m (refusing (refusedWith given) m n c)
-with-keeps zero d given m c k = k
-with-keeps (suc n) d given m c k =
-    record { keeps = record { refused = λ _ _. refl; zeroing = λ q. absurd (d q) }; header = λ _. refl; accepted = λ q. absurd (omega (arith, q)) }
+with-keeps : (n : ℕ) → ¬ Zeroing n → (m : Memory) (c : Outcome ℕ) → AnswerKeeps m c → AnswerKeeps m (refusing (λ i. i) m n c)
+with-keeps zero d m c k = k
+with-keeps (suc n) d m c k = record { keeps = record { refused = λ _ _. refl; zeroing = λ q. absurd (d q) }; accepted = λ q. absurd (omega (arith, q)) }
 
 -- none of these checks has such a number
 abbrev other? : List Check → Bool
@@ -67,9 +82,9 @@ other-number ((n, true) ∷ l) t e = other-number l ((test-other n l) .yields t 
 other-number ((n, false) ∷ l) t e = (test-other n l) .yields t .0 e
 
 opens-keeps : (h : Header) (m : Memory) → m .work ≡ [] → ChangeKeeps h m (openCall h m)
-unfolding openCall openRefusal
+unfolding openCall openChange openRefusal
 opens-keeps h m e =
-    with-keeps (openRefusal h m) (other-number _ tt) h m _ (record { keeps = accepted-keeps refl; header = λ k. absurd (omega arith); accepted = λ _. rw e refl })
+    handing-keeps h (h .size) m _ (with-keeps (openRefusal (h .size) m) (other-number _ tt) m _ (record { keeps = accepted-keeps refl; accepted = λ _. rw e refl }))
 
 -- ---- calls that change no record
 
@@ -77,28 +92,35 @@ yes-or-no : (b : Bool) → queryNumber (saying b) ≡ 0
 yes-or-no true = refl
 yes-or-no false = refl
 
-query-accepted : (h : Header) (start destination : ℕ) (pattern : List ℕ) (m : Memory) → queryRefusal h start destination pattern m ≡ 0
-    → queryNumber (queryCall h start destination pattern m .reply) ≡ 0
-unfolding queryCall
-query-accepted h start destination pattern m e =
+full-accepted : (h : Size) (start destination : ℕ) (pattern : List ℕ) (m : Memory) → fullRefusal h start destination pattern m ≡ 0
+    → queryNumber (fullCall h start destination pattern m .reply) ≡ 0
+unfolding fullCall
+full-accepted h start destination pattern m e =
     rw e (both-ways (once? pattern)
     (λ q. rw q (yes-or-no (answers? (h .vertices) (m .index) pattern start destination)))
     (λ q. rw q (yes-or-no (runs? (graphOf h (standing (m .edges))) pattern start destination))))
 
-query-keeps : (h : Header) (start destination : ℕ) (pattern : List ℕ) (m : Memory) →
-    let c = queryCall h start destination pattern m in
-    Keeps m c (queryNumber (c .reply)) × (queryNumber (c .reply) ≡ 0 → Leaves pattern m (c .memory))
-query-keeps h start destination pattern m = go (queryRefusal h start destination pattern m) refl
+-- what an accepted question leaves, of a kind
+abbrev Asks : Memory → (Memory → Type 0) → Outcome Answered → Type 0
+Asks m leaves c = Keeps m c (queryNumber (c .reply)) × (queryNumber (c .reply) ≡ 0 → leaves (c .memory))
+
+-- the full question: by how often the pattern was written
+record LeavesByCount (pattern : List ℕ) (m m′ : Memory) : Type 0 where
+  once : MinRepeat pattern pattern → m′ ≡ m
+  repeating : ¬ MinRepeat pattern pattern → m′ ≡ cleared m
+
+full-keeps : (h : Size) (start destination : ℕ) (pattern : List ℕ) (m : Memory) → Asks m (LeavesByCount pattern m) (fullCall h start destination pattern m)
+full-keeps h start destination pattern m = go (fullRefusal h start destination pattern m) refl
   where
     c : Outcome Answered
-    c = queryCall h start destination pattern m
+    c = fullCall h start destination pattern m
 
-    others : ¬ Zeroing (queryRefusal h start destination pattern m)
-    others = unfold queryRefusal in other-number _ tt
+    others : ¬ Zeroing (fullRefusal h start destination pattern m)
+    others = unfold fullRefusal in other-number _ tt
 
-    go : (n : ℕ) → queryRefusal h start destination pattern m ≡ n → Keeps m c (queryNumber (c .reply)) × (queryNumber (c .reply) ≡ 0 → Leaves pattern m (c .memory))
+    go : (n : ℕ) → fullRefusal h start destination pattern m ≡ n → Asks m (LeavesByCount pattern m) c
     go zero e = (
-      accepted-keeps (query-accepted h start destination pattern m e),
+      accepted-keeps (full-accepted h start destination pattern m e),
       λ _. record {
         once = λ own. rw (once-is h start destination pattern m e own) refl;
         repeating = λ more. rw (repeats-is h start destination pattern m e more) refl;
@@ -107,8 +129,38 @@ query-keeps h start destination pattern m = go (queryRefusal h start destination
     go (suc n) e =
         let told = number-refuses h start destination pattern m e in
         rw told (
-          record { refused = λ _ _. unfold queryCall in rw e refl; zeroing = λ q. absurd (others (rw e q)) },
+          record { refused = λ _ _. unfold fullCall in rw e refl; zeroing = λ q. absurd (others (rw e q)) },
           λ q. absurd (omega (arith, q)),
+        )
+
+-- the question: by the rule of totals
+query-keeps : (h : Header) (start destination : ℕ) (pattern : List ℕ) (m : Memory) → Asks m (Leaves (h .totals) pattern m) (queryCall h start destination pattern m)
+query-keeps h start destination pattern m = both-ways (lacking? (h .totals) pattern) (λ q. ruled q (askRefusal (h .size) start destination pattern) refl) whole
+  where
+    lacks? : Tests (lacking? (h .totals) pattern) (Lacks (h .totals) pattern)
+    lacks? = test-lacking (h .totals) pattern
+
+    whole : lacking? (h .totals) pattern ≡ false → Asks m (Leaves (h .totals) pattern m) (queryCall h start destination pattern m)
+    whole q =
+        let (keeps, leaves) = full-keeps (h .size) start destination pattern m in
+        rw (query-full h start destination pattern m q) (
+          keeps,
+          λ e. record { lacking = λ l. absurd (test-fails lacks? q l); once = leaves e .once; repeating = λ _. leaves e .repeating },
+        )
+
+    others : ¬ Zeroing (askRefusal (h .size) start destination pattern)
+    others = unfold askRefusal in other-number _ tt
+
+    ruled : lacking? (h .totals) pattern ≡ true → (n : ℕ) → askRefusal (h .size) start destination pattern ≡ n → Asks m (Leaves (h .totals) pattern m) (queryCall h start destination pattern m)
+    ruled q zero e =
+        rw (query-lacking h start destination pattern m e q) (
+          accepted-keeps refl,
+          λ _. record { lacking = λ _. refl; once = λ _. refl; repeating = λ d. absurd (d (test-yields lacks? q)) },
+        )
+    ruled q (suc n) e =
+        rw (query-refuses h start destination pattern m e) (
+          record { refused = λ _ _. refl; zeroing = λ z. absurd (others (rw e z)) },
+          λ z. absurd (omega (arith, z)),
         )
 
 pub told-none : {g : Graph} {l : List ℕ} {s t limit : ℕ} {r : Reply} → Told g l s t limit r → searchNumber r ≡ 0
@@ -187,13 +239,13 @@ written-keeps zero d card m = (
 written-keeps (suc n) d card m = (record { refused = λ _ _. refl; zeroing = λ q. absurd (d q) }, λ k e. absurd (let z : 1 ≡ 0 = ap kind e in omega (arith, z)))
 
 pub demand1 : Demand1
-unfolding insertCall insertRefusal removeCall removeRefusal readCall readRefusal searchCall searchRefusal routeCall writeCall writeRefusal
+unfolding insertCall insertChange insertRefusal removeCall removeChange removeRefusal readCall readChange readRefusal searchCall searchRefusal routeCall writeCall writeRefusal
 demand1 =
     record {
       opens = λ h edges index. opens-keeps h _ refl;
-      inserts = λ h from label to m. with-keeps _ (other-number _ tt) h m _ (settle-keeps h h _ m);
-      removes = λ h from label to m. with-keeps _ (other-number _ tt) h m _ (settle-keeps h h _ m);
-      reads = λ bytes m. with-keeps _ (other-number _ tt) _ m _ (settle-keeps _ _ _ m);
+      inserts = λ h from label to m. handing-keeps h _ m _ (with-keeps _ (other-number _ tt) m _ (settle-keeps _ _ m));
+      removes = λ h from label to m. handing-keeps h _ m _ (with-keeps _ (other-number _ tt) m _ (settle-keeps _ _ m));
+      reads = λ bytes m. handing-keeps _ _ m _ (with-keeps _ (other-number _ tt) m _ (settle-keeps _ _ m));
       queries = query-keeps;
       searches = λ h start destination pattern limit m.
           searched-keeps _ (other-number _ tt) _ (told-none (told (graphOf h (standing (m .edges))) pattern start destination limit)) m;

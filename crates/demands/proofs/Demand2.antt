@@ -13,12 +13,12 @@ use Rattle.model.specs.Edges.{standing}
 use Rattle.model.specs.Computed.Edges.{edgeMemory?}
 use Rattle.model.specs.Computed.Entries.{determined}
 use Rattle.model.proofs.Tests.{test-true, test-le}
-use Rattle.model.proofs.Memory.{edge-memory, edge-least, standing-filled, filled-memory}
+use Rattle.model.proofs.Memory.{edge-memory, edge-least, standing-filled, standing-some, filled-memory}
 use Rattle.model.proofs.Zeros.{filled-within}
 use Rattle.calls.specs.Checks.{vertices?, longest?, Check, firstRefusal}
-use Rattle.calls.specs.Call.{Header, graphOf, Memory, Outcome, noRecord, Wrote, Length}
-use Rattle.calls.specs.Change.{buildRoom?, fits?}
-use Rattle.calls.specs.Card.{headerOf, countOf, edgesOf, cardOf, cardChecks, cardRefusal, readRefusal, readCall, writeRefusal, writeCall}
+use Rattle.calls.specs.Call.{Size, Header, graphOf, Memory, Outcome, noRecord, Wrote, Length}
+use Rattle.calls.specs.Change.{handing, buildRoom?, fits?}
+use Rattle.calls.specs.Card.{sizeOf, countOf, edgesOf, cardOf, cardChecks, cardRefusal, readRefusal, readChange, readCall, writeRefusal, writeCall}
 use Rattle.calls.proofs.Checks.{none, pass, first-is, bounded, bounds-pass}
 use Rattle.calls.proofs.Change.{pass-first}
 use Rattle.calls.proofs.Card.{card-good, Cardable, CardSays, card-says, card-again}
@@ -32,12 +32,12 @@ use Rattle.demands.proofs.Right.{open-right, insert-right, remove-right
 -- ---- (b) a card that was written, read again
 
 -- the length, and the checks that have passed
-record Accepted (h : Header) (w : Memory) (n : ℕ) : Type 0 where
+record Accepted (h : Size) (w : Memory) (n : ℕ) : Type 0 where
   size : n ≡ length (cardOf h (standing (w .edges)))
   out : writeCall h w .memory .output ≡ cardOf h (standing (w .edges)) ++ drop n (w .output)
   cardable : Cardable h (standing (w .edges))
 
-abbrev writeChecks : Header → Memory → List Check
+abbrev writeChecks : Size → Memory → List Check
 writeChecks h w =
     (1, vertices? (h .vertices))
     ∷ (2, longest? (h .longest))
@@ -45,7 +45,7 @@ writeChecks h w =
     ∷ (17, leb (headBytes + tripleBytes * length (standing (w .edges))) (length (w .output)))
     ∷ []
 
-wrote : (h : Header) (w : Memory) {n : ℕ} → writeCall h w .reply ≡ Length n → Accepted h w n
+wrote : (h : Size) (w : Memory) {n : ℕ} → writeCall h w .reply ≡ Length n → Accepted h w n
 unfolding writeCall
 wrote h w {n} e = go (writeRefusal h w) refl e
   where
@@ -67,22 +67,22 @@ wrote h w {n} e = go (writeRefusal h w) refl e
         }
 
 -- a card that passes its own checks is accepted if memory has room for it
-read-accepted : (card : List ℕ) (m : Memory) {h : Header} {edges : List ℕ} → CardSays card h edges → Roomy m (length edges) (length (determined (graphOf h edges)))
-    → readCall card m ≡ settledChange h edges m
-unfolding readCall readRefusal
+read-accepted : (card : List ℕ) (m : Memory) {h : Size} {edges : List ℕ} → CardSays card h edges → Roomy m (length edges) (length (determined (graphOf h edges)))
+    → readCall card m ≡ handing noRecord h (settledChange h edges m)
+unfolding readCall readChange readRefusal
 read-accepted card m {h} {edges} says room =
     let q : firstRefusal (cardChecks card ++ later) ≡ 0 = pass-first (cardChecks card) later tt (unfold cardRefusal in says .passes) ∙ rest in
-    settled noRecord (headerOf card) (edgesOf (drop headBytes card)) m (cardChecks card ++ more) tt .accepted q
-    ∙ ap₂ (λ (k : Header) (l : List ℕ). settledChange k l m) (says .header) (says .edges-are)
+    settled noRecord (sizeOf card) (edgesOf (drop headBytes card)) m (cardChecks card ++ more) tt .accepted q
+    ∙ ap₂ (λ (k : Size) (l : List ℕ). handing noRecord k (settledChange k l m)) (says .header) (says .edges-are)
   where
     more : List Check
     more = (3, leb (length (m .edges)) mostEdges) ∷ (9, leb (countOf card) (length (m .edges))) ∷ (4, buildRoom? m) ∷ []
 
     later : List Check
-    later = more ++ ((13, fits? (headerOf card) (edgesOf (drop headBytes card)) m) ∷ [])
+    later = more ++ ((13, fits? (sizeOf card) (edgesOf (drop headBytes card)) m) ∷ [])
 
-    thirteen : fits? (headerOf card) (edgesOf (drop headBytes card)) m ≡ true
-    thirteen = ap₂ (λ (k : Header) (l : List ℕ). fits? k l m) (says .header) (says .edges-are) ∙ (test-true (test-le (length (determined (graphOf h edges))) (length (m .index))) (room .index-slots))
+    thirteen : fits? (sizeOf card) (edgesOf (drop headBytes card)) m ≡ true
+    thirteen = ap₂ (λ (k : Size) (l : List ℕ). fits? k l m) (says .header) (says .edges-are) ∙ (test-true (test-le (length (determined (graphOf h edges))) (length (m .index))) (room .index-slots))
 
     nine : leb (countOf card) (length (m .edges)) ≡ true
     nine = rw (says .count) (test-true (test-le (length edges) (length (m .edges))) (room .edge-slots))
@@ -94,15 +94,23 @@ read-accepted card m {h} {edges} says room =
         (pass (test-true (test-le (leastWork + length (m .index)) (length (m .work))) (room .work))
         (pass thirteen none))))
 
-reading : (h : Header) (w : Memory) (n : ℕ) (m : Memory) → writeCall h w .reply ≡ Length n
-    → Roomy m (length (standing (w .edges))) (length (determined (graphOf h (standing (w .edges)))))
-    → Restores h (w .edges) m (readCall (take n (writeCall h w .memory .output)) m)
+reading : (h : Header) (w : Memory) (n : ℕ) (m : Memory) → writeCall (h .size) w .reply ≡ Length n
+    → Roomy m (length (standing (w .edges))) (length (determined (graphOf (h .size) (standing (w .edges)))))
+    → Restores h (w .edges) m (readCall (take n (writeCall (h .size) w .memory .output)) m)
 reading h w n m e room =
-    let a = wrote h w e in
-    let card = cardOf h (standing (w .edges)) in
-    let bytes : take n (writeCall h w .memory .output) ≡ card
+    let a = wrote (h .size) w e in
+    let card = cardOf (h .size) (standing (w .edges)) in
+    let bytes : take n (writeCall (h .size) w .memory .output) ≡ card
     = rw (a .out) (ap (λ (k : ℕ). take k (card ++ drop n (w .output))) (a .size) ∙ take-append-seam card (drop n (w .output))) in
-    rw (bytes, read-accepted card m (card-says (a .cardable)) room) (record { accepted = refl; header = refl; edges-back = refl; index-back = refl })
+    let stands : standing (filled (length (m .edges)) (standing (w .edges))) ≡ standing (w .edges)
+    = standing-filled (length (m .edges)) (standing (w .edges)) (λ x k. standing-some (w .edges) k) in
+    rw (bytes, read-accepted card m (card-says (a .cardable)) room) (record {
+      accepted = refl;
+      size = refl;
+      header = λ counted. rw (stands, sym counted) refl;
+      edges-back = refl;
+      index-back = refl;
+    })
 
 -- ---- (c) a card that was read, written again
 
@@ -112,7 +120,7 @@ record WritesBack (bytes output : List ℕ) (w : Outcome Wrote) : Type 0 where
   output-is : w .memory .output ≡ bytes ++ drop (length bytes) output
 
 writes-back : (bytes output : List ℕ) (m : Memory) → Bytes bytes → Said bytes m → length bytes ≤ length output
-    → WritesBack bytes output (writeCall (headerOf bytes) (record { edges = filled (length (m .edges)) (edgesOf (drop headBytes bytes)); index = []; work = []; output = output }))
+    → WritesBack bytes output (writeCall (sizeOf bytes) (record { edges = filled (length (m .edges)) (edgesOf (drop headBytes bytes)); index = []; work = []; output = output }))
 unfolding writeCall writeRefusal
 writes-back bytes output m small c long = rw (no-refusal, stands, card-again bytes (c .passes) small) (record { reply = refl; output-is = refl })
   where
@@ -123,7 +131,7 @@ writes-back bytes output m small c long = rw (no-refusal, stands, card-again byt
     w = record { edges = filled (length (m .edges)) wanted; index = []; work = []; output = output }
 
     stands : standing (filled (length (m .edges)) wanted) ≡ wanted
-    stands = standing-filled (length (m .edges)) wanted (λ x k. omega (arith, edge-least (headerOf bytes .vertices) x (c .valid x k)))
+    stands = standing-filled (length (m .edges)) wanted (λ x k. omega (arith, edge-least (sizeOf bytes .vertices) x (c .valid x k)))
 
     size : headBytes + tripleBytes * length wanted ≡ length bytes
     size = omega (arith, card-good bytes (c .passes) .count, card-good bytes (c .passes) .whole)
@@ -131,14 +139,14 @@ writes-back bytes output m small c long = rw (no-refusal, stands, card-again byt
     seventeen : leb (headBytes + tripleBytes * length (standing (filled (length (m .edges)) wanted))) (length output) ≡ true
     seventeen = rw (stands, size) (test-true (test-le (length bytes) (length output)) long)
 
-    no-refusal : writeRefusal (headerOf bytes) w ≡ 0
+    no-refusal : writeRefusal (sizeOf bytes) w ≡ 0
     no-refusal =
         first-is (bounds-pass (c .bounds)
-        (pass (filled-memory (headerOf bytes .vertices) (length (m .edges)) wanted (c .fits) (c .few) (c .rising) (c .valid)) (pass seventeen none)))
+        (pass (filled-memory (sizeOf bytes .vertices) (length (m .edges)) wanted (c .fits) (c .few) (c .rising) (c .valid)) (pass seventeen none)))
 
 writing : (bytes output : List ℕ) (m : Memory) → Bytes bytes → readCall bytes m .reply .answer ≡ 0 → length bytes ≤ length output →
     let c = readCall bytes m in
-    let w = writeCall (c .reply .header) (record { edges = c .memory .edges; index = []; work = []; output = output }) in
+    let w = writeCall (c .reply .header .size) (record { edges = c .memory .edges; index = []; work = []; output = output }) in
     (w .reply ≡ Length (length bytes)) × (w .memory .output ≡ bytes ++ drop (length bytes) output)
 writing bytes output m small e long =
     let c = read-said bytes m small e in

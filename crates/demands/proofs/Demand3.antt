@@ -6,28 +6,29 @@ use Prim.Native.Nat.{ℕ, zero, suc}
 use lib.Dec.{T}
 use lib.ListN.{length}
 use Rattle.model.specs.Lists.{_∈_, keep, filled}
-use Rattle.model.specs.Query.{Answered}
+use Rattle.model.specs.Query.{Answered, No}
 use Rattle.model.specs.Computed.Edges.{Small}
 use Rattle.model.specs.Computed.Patterns.{once?}
 use Rattle.model.specs.Computed.Order.{counted}
 use Rattle.model.specs.Computed.Entries.{determined}
-use Rattle.model.proofs.Tests.{test-true}
+use Rattle.model.proofs.Tests.{test-true, both-ways}
 use Rattle.model.proofs.Patterns.{test-keyed, test-once}
 use Rattle.model.proofs.Order.{counted-names}
-use Rattle.calls.specs.Call.{lent, Outcome}
-use Rattle.calls.specs.Query.{saying, queryRefusal}
+use Rattle.calls.specs.Call.{Memory, lent, Outcome}
+use Rattle.calls.specs.Query.{saying, fullRefusal, fullCall, lacking?, queryCall}
 use Rattle.calls.proofs.Checks.{none, pass, first-is, bounds-pass, test-ends}
-use Rattle.calls.proofs.Query.{within}
+use Rattle.calls.proofs.Query.{within, ask-passes, query-lacking, query-full}
 use Rattle.demands.specs.Ledger.{Given, opening, insertion, removal, card, Fed, Book, rising, bookEntries, ruling, turnWith, turn, LedgerReply, ledger}
 use Rattle.demands.specs.Run.Station.{Call, Station, changeOn, change, run, fedBy, fedAll}
 use Rattle.demands.specs.Run.Demand3.{Demand3Holds}
 use Rattle.demands.specs.Terms.{blank, Begins, standingGraph, Missed}
 use Rattle.demands.proofs.Index.{Turned, struck-answer}
-use Rattle.demands.proofs.Steps.{recordOf, stationOf, Fine, Matches}
+use Rattle.demands.proofs.Steps.{bookSize, recordOf, stationOf, Fine, Matches}
 use Rattle.demands.proofs.Changes.{insert-matches, remove-matches}
 use Rattle.demands.proofs.Openings.{open-begins, open-first, open-matches}
 use Rattle.demands.proofs.Cards.{read-begins, read-first, read-matches}
 use Rattle.demands.proofs.Rising.{rising-rises, rising-out}
+use Rattle.demands.proofs.Totals.{tally-is}
 use Rattle.demands.proofs.Asking.{once-is}
 use Rattle.demands.proofs.Right.{Standable, right}
 
@@ -38,7 +39,7 @@ module _ (slots room : ℕ) where
   step {b} f c = on (c .given)
     where
       on : (given : Given) → Matches slots room (stationOf slots room b) given (changeOn (stationOf slots room b) (c .work) given) (turn b (fedBy slots room (record { given = given; work = c .work })))
-      on (opening vertices longest) = open-matches (record { vertices = vertices; longest = longest }) (c .work) f
+      on (opening vertices longest totals) = open-matches (record { size = record { vertices = vertices; longest = longest }; totals = totals }) (c .work) f
       on (insertion from label to) = insert-matches f from label to (c .work)
       on (removal from label to) = remove-matches f from label to (c .work)
       on (card bytes small) = read-matches bytes small (c .work) f
@@ -74,7 +75,7 @@ begun s c begins = on (c .given) begins
 
     on : (given : Given) → Begins given → ruling blank (fedBy (length (s .edges)) (length (s .index)) (made given)) .number ≡ 0
         → Matches (length (s .edges)) (length (s .index)) s given (changeOn s (c .work) given) (turn blank (fedBy (length (s .edges)) (length (s .index)) (made given)))
-    on (opening vertices longest) _ e = open-begins (record { vertices = vertices; longest = longest }) (c .work) s refl refl blank e
+    on (opening vertices longest totals) _ e = open-begins (record { size = record { vertices = vertices; longest = longest }; totals = totals }) (c .work) s refl refl blank e
     on (card bytes small) _ e = read-begins bytes small (c .work) s refl refl blank e
 
 -- the number of a turn
@@ -92,8 +93,8 @@ first-number s c begins = on (c .given) begins ∙ turn-number blank (fedBy (len
   where
     on : (given : Given) → Begins given
         → changeOn s (c .work) given .reply .answer ≡ turn blank (fedBy (length (s .edges)) (length (s .index)) (record { given = given; work = c .work })) .reply .number
-    on (opening vertices longest) _ =
-        ap (λ (x : LedgerReply). x .number) (open-first (record { vertices = vertices; longest = longest }) (c .work) s refl refl blank)
+    on (opening vertices longest totals) _ =
+        ap (λ (x : LedgerReply). x .number) (open-first (record { size = record { vertices = vertices; longest = longest }; totals = totals }) (c .work) s refl refl blank)
     on (card bytes small) _ = ap (λ (x : LedgerReply). x .number) (read-first bytes small (c .work) s refl refl blank)
 
 -- ---- no entry can be spared
@@ -104,7 +105,7 @@ module _ {slots room : ℕ} {b : Book} (f : Fine slots room b) where
 
   missed : (keeps : ℕ → Bool) (e : ℕ) → e ∈ bookEntries b → ¬ T (keeps e)
       → Missed (stationOf slots room b .header) b (filled room (keep keeps (bookEntries b)))
-  unfolding determined queryRefusal
+  unfolding determined fullRefusal
   missed keeps e m gone =
       let t = struck-answer (standingGraph b) (counted (standingGraph b)) small room (counted-names (standingGraph b)) keeps e m gone in
       record {
@@ -113,13 +114,20 @@ module _ {slots room : ℕ} {b : Book} (f : Fine slots room b) where
         pattern = t .pattern;
         own = t .asked .pattern;
         runs = t .runs;
-        answered = λ edges work.
-            ap (λ (c : Outcome Answered). c .reply) (once-is (recordOf b) _ _ _ _ (passes t edges work) (t .asked .pattern .own)) ∙ ap saying (t .no-after);
+        answered = λ edges work. answered t (lent edges _ work)
+            (ap (λ (c : Outcome Answered). c .reply) (once-is (bookSize b) _ _ _ _ (passes t edges work) (t .asked .pattern .own)) ∙ ap saying (t .no-after));
       }
     where
+      -- a full reply that is no is the reply, by the rule of totals or without it
+      answered : {whole struck : List ℕ} (t : Turned (standingGraph b) whole struck) (m : Memory)
+          → fullCall (bookSize b) (t .start) (t .destination) (t .pattern) m .reply ≡ No → queryCall (recordOf b) (t .start) (t .destination) (t .pattern) m .reply ≡ No
+      answered t m e = both-ways (lacking? (recordOf b .totals) (t .pattern))
+          (λ q. rw (query-lacking (recordOf b) (t .start) (t .destination) (t .pattern) m (ask-passes (f .bounds) (t .asked .from) (t .asked .to) (t .asked .pattern .keyed)) q) refl)
+          (λ q. rw (query-full (recordOf b) (t .start) (t .destination) (t .pattern) m q) e)
+
       -- its pattern is its own minimum repeat, so 3 and 4 pass whatever is lent
       passes : {whole struck : List ℕ} (t : Turned (standingGraph b) whole struck) (edges work : List ℕ)
-          → queryRefusal (recordOf b) (t .start) (t .destination) (t .pattern) (lent edges struck work) ≡ 0
+          → fullRefusal (bookSize b) (t .start) (t .destination) (t .pattern) (lent edges struck work) ≡ 0
       passes t edges work =
           let p = t .asked .pattern in
           let once : once? (t .pattern) ≡ true = test-true (test-once (t .pattern) (within (f .bounds) (p .keyed))) (p .own) in
@@ -149,5 +157,5 @@ demand3 s first more begins e =
       edges = ap (λ (t : Station). t .edges) (a .station);
       index = ap (λ (t : Station). t .index) (a .station);
       needed = rw (a .station) (missed (a .fine));
-      right = rw (a .station) (right (standingGraph _) (a .fine .bounds) (length (s .edges)) (length (s .index)) (can-stand (a .fine)));
+      right = rw (a .station, tally-is) (right (standingGraph _) (a .fine .bounds) (length (s .edges)) (length (s .index)) (can-stand (a .fine)));
     }

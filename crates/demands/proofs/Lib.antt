@@ -1,5 +1,6 @@
 pub mod Index
 pub mod Rising
+pub mod Totals
 pub mod Numbers
 pub mod Steps
 pub mod Changes

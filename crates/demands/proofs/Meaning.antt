@@ -3,16 +3,17 @@ use mathlib.Core.Path.{_≡_, sym, _∙_}
 use mathlib.Core.Logic.{_↔_}
 use mathlib.Core.Bool.{Bool, true}
 use mathlib.Core.List.{List}
-use Prim.Native.Nat.{ℕ}
+use Prim.Native.Nat.{ℕ, _<_}
 use native.Mathlib.Omega.{arith}
 use Rattle.model.specs.Limits.{mostLongest}
 use Rattle.model.specs.Edges.{Graph, Bounds, standing}
 use Rattle.model.specs.Patterns.{times, Keyed, MinRepeat}
+use Rattle.model.specs.Query.{No}
 use Rattle.model.specs.Computed.Edges.{Small}
 use Rattle.model.specs.Computed.Patterns.{minRepeat, timesWritten}
 use Rattle.model.specs.Computed.Order.{counted}
 use Rattle.model.specs.Computed.Entries.{determined}
-use Rattle.model.proofs.Tests.{Tests, test-true, test-yields}
+use Rattle.model.proofs.Tests.{Tests, test-true, test-false, test-yields}
 use Rattle.model.proofs.Patterns.{test-keyed, min-repeat, min-repeat-unique, written-gives, written-is}
 use Rattle.model.proofs.Walks.{runs-spells, spells-runs}
 use Rattle.model.proofs.Levels.{state-zero, level-zero, level-iff}
@@ -22,9 +23,13 @@ use Rattle.model.proofs.Entries.{entries-in, entries-out, entries-rise}
 use Rattle.model.proofs.Query.{test-answers}
 use Rattle.model.proofs.Codes.{test-code}
 use Rattle.model.proofs.Memories.{test-edge-memory, test-index-memory}
-use Rattle.calls.specs.Call.{Header, graphOf, Memory}
+use Rattle.model.proofs.Totals.{total-at, total-zero}
+use Rattle.calls.specs.Call.{Size, Header, graphOf, Memory}
 use Rattle.calls.specs.Search.{searchCall}
-use Rattle.demands.specs.Demand1.{searchNumber}
+use Rattle.calls.specs.Query.{queryCall}
+use Rattle.calls.proofs.Query.{ask-passes, test-lacking, query-lacking, query-full}
+use Rattle.demands.specs.Demand1.{Lacks, searchNumber, queryNumber}
+use Rattle.demands.specs.Demand2.{Judged}
 use Rattle.demands.proofs.Asking.{unrefused, search-right}
 use Rattle.demands.proofs.Routing.{search-allowed, search-number, route-told, route-levels}
 use Rattle.demands.specs.Meaning.{Replies, GraphMeaning, Meaning}
@@ -47,7 +52,7 @@ graph-meaning g b =
       codes = λ number below. exactly (test-code (g .longest) number (b .longest-most) below);
     }
 
-searches : (h : Header) (start destination : ℕ) (pattern : List ℕ) (limit : ℕ) (m : Memory) →
+searches : (h : Size) (start destination : ℕ) (pattern : List ℕ) (limit : ℕ) (m : Memory) →
     let r = searchCall h start destination pattern limit m .reply in
     searchNumber r ≡ 0 → Replies (graphOf h (standing (m .edges))) pattern start destination limit r
 unfolding searchCall
@@ -66,6 +71,17 @@ written l m j p r =
     let same : minRepeat l ≡ m = min-repeat-unique l m (p .long) r in
     rw (sym same) (written-is l p j, λ e. rw e (written-gives l p))
 
+-- a question with no label lacking is the full one
+queries : (h : Header) (s t : ℕ) (l : List ℕ) (m : Memory) → ¬ MinRepeat l l → ¬ Lacks (h .totals) l →
+    let r = queryCall h s t l m .reply in
+    queryNumber r ≡ 0 → Judged (graphOf (h .size) (standing (m .edges))) l s t r
+queries h s t l m more whole =
+    rw (query-full h s t l m (test-false (test-lacking (h .totals) l) whole)) (λ e. search-right (h .size) s t l m (unrefused (h .size) s t l m e) more)
+
+lacking : (h : Header) (s t : ℕ) (l : List ℕ) (m : Memory) → Bounds (h .size .vertices) (h .size .longest) → s < h .size .vertices → t < h .size .vertices
+    → Keyed (h .size .longest) l → Lacks (h .totals) l → queryCall h s t l m ≡ record { reply = No; memory = m }
+lacking h s t l m b hs ht k lacks = query-lacking h s t l m (ask-passes b hs ht k) (test-true (test-lacking (h .totals) l) lacks)
+
 pub meaning : Meaning
 meaning =
     record {
@@ -80,5 +96,7 @@ meaning =
       searches = searches;
       routes = λ h s t l limit m. route-told h s t l m limit;
       lengths = λ h s t l limit m. route-levels h s t l m limit;
-      queries = λ h s t l m more e. search-right h s t l m (unrefused h s t l m e) more;
+      queries = queries;
+      total-zero = λ edges c low high. rw (total-at edges c low high) (total-zero edges c);
+      lacking = lacking;
     }

@@ -16,13 +16,13 @@ use Rattle.model.specs.Computed.Order.{counted}
 use Rattle.model.specs.Computed.Entries.{determined}
 use Rattle.model.proofs.Tests.{test-yields, test-le}
 use Rattle.model.proofs.Entries.{entries-out}
-use Rattle.calls.specs.Checks.{Check, vertices?, longest?, firstRefusal}
-use Rattle.calls.specs.Call.{Header, lent, Outcome, Returned}
-use Rattle.calls.specs.Change.{openRefusal, openCall}
-use Rattle.calls.proofs.Checks.{test-vertices, test-longest}
+use Rattle.calls.specs.Checks.{Check, firstRefusal}
+use Rattle.calls.specs.Call.{Header, lent, Outcome}
+use Rattle.calls.specs.Change.{handing, openChecks, openRefusal, openChange, openCall}
+use Rattle.calls.proofs.Checks.{bounded}
 use Rattle.calls.proofs.Settling.{Result, with-number}
 use Rattle.calls.proofs.Passing.{passing}
-use Rattle.demands.specs.Ledger.{Book, opening, rising, bookEntries, shows, openingNumber, turn}
+use Rattle.demands.specs.Ledger.{Book, opening, rising, bookEntries, Shown, shows, openingNumber, turn}
 use Rattle.demands.specs.Terms.{replyTo}
 use Rattle.demands.specs.Run.Station.{Call, Station, memoryOf, fedBy}
 use Rattle.demands.proofs.Rising.{rising-out}
@@ -63,41 +63,48 @@ rising-none = empty-is (rising []) (λ x m. List·Memᴰ·not-nil (rising-out []
 module _ (h : Header) where
   -- whatever work memory is lent
   abbrev opens : List ℕ → Call
-  opens work = record { given = opening (h .vertices) (h .longest); work = work }
+  opens work = record { given = opening (h .size .vertices) (h .size .longest) (h .totals); work = work }
 
   abbrev fresh : Book
-  fresh = record { vertices = h .vertices; longest = h .longest; edges = [] }
+  fresh = record { vertices = h .size .vertices; longest = h .size .longest; edges = [] }
 
-  abbrev done : Station → Outcome Returned
-  done s = record { reply = record { header = h; answer = 0 }; memory = lent (zeroed (s .edges)) (zeroed (s .index)) [] }
+  abbrev done : Station → Outcome ℕ
+  done s = record { reply = 0; memory = lent (zeroed (s .edges)) (zeroed (s .index)) [] }
+
+  -- what the ledger shows with a refusal: the record as given
+  abbrev given : Shown
+  given = shows (h .size .vertices) (h .size .longest) (h .totals)
 
   module _ (work : List ℕ) (s : Station) {slots room : ℕ} (wide : length (s .edges) ≡ slots) (long : length (s .index) ≡ room) where
-    abbrev openChecks : List Check
-    openChecks = (1, vertices? (h .vertices)) ∷ (2, longest? (h .longest)) ∷ (3, leb (length (s .edges)) mostEdges) ∷ []
+    abbrev checks : List Check
+    checks = openChecks (h .size) (memoryOf s [])
 
-    open-gives : Gives openChecks (openingNumber (h .vertices) (h .longest) (fedBy slots room (opens work)))
+    abbrev number : ℕ
+    number = openingNumber (h .size .vertices) (h .size .longest) (fedBy slots room (opens work))
+
+    open-gives : Gives checks number
     unfolding openingNumber
     open-gives =
-        chain (outside-not 1 mostVertices (h .vertices)) (λ _.
-        chain (outside-not 1 mostLongest (h .longest)) (λ _.
+        chain (outside-not 1 mostVertices (h .size .vertices)) (λ _.
+        chain (outside-not 1 mostLongest (h .size .longest)) (λ _.
         chain three (λ _. gives-none)))
       where
         three : ltb mostEdges slots ≡ not (leb (length (s .edges)) mostEdges)
         three = rw wide (above-not slots mostEdges)
 
-    open-reaches : firstRefusal openChecks ≡ 0 → Reaches slots room (done s) fresh
+    open-reaches : firstRefusal checks ≡ 0 → Reaches slots room (h .size) (done s) fresh
     open-reaches e =
-        let (v, (k, (few, _))) = passing openChecks tt e in
-        let (a, b) = test-yields (test-vertices (h .vertices)) v in
-        let (c, d) = test-yields (test-longest (h .longest)) k in
-        let empty : bookEntries fresh ≡ [] = no-entries (record { vertices = h .vertices; longest = h .longest; edges = rising [] }) rising-none
-        (record { vertices-small = b; longest-small = d }) in
+        let (v, (k, (few, _))) = passing checks tt e in
+        let bounds = bounded v k in
+        let empty : bookEntries fresh ≡ [] = no-entries (record { vertices = h .size .vertices; longest = h .size .longest; edges = rising [] }) rising-none
+        (record { vertices-small = bounds .vertices-most; longest-small = bounds .longest-most }) in
         record {
-          reply = refl;
+          answer = refl;
+          size-is = refl;
           edges = rw (rising-none, wide) (blank-filled slots);
           index = rw (empty, long) (blank-filled room);
           fine = record {
-            bounds = record { vertices-least = a; vertices-most = b; longest-least = c; longest-most = d };
+            bounds = bounds;
             few = rw wide at (test-yields (test-le (length (s .edges)) mostEdges) few);
             valid = λ x m. absurd (List·Memᴰ·not-nil m);
             fits = rw rising-none (omega arith);
@@ -105,20 +112,20 @@ module _ (h : Header) where
           };
         }
 
-    open-result : Result (openCall h (memoryOf s [])) h (memoryOf s []) (done s) (firstRefusal openChecks)
-    unfolding openCall openRefusal
-    open-result = with-number (firstRefusal openChecks) h (memoryOf s []) (done s)
+    open-result : Result (openCall h (memoryOf s [])) h (memoryOf s []) (handing h (h .size) (done s)) (firstRefusal checks)
+    unfolding openCall openChange openRefusal
+    open-result = with-number h (h .size) (firstRefusal checks) (memoryOf s []) (done s)
 
-    pub open-begins : (b : Book) → openingNumber (h .vertices) (h .longest) (fedBy slots room (opens work)) ≡ 0
+    pub open-begins : (b : Book) → openingNumber (h .size .vertices) (h .size .longest) (fedBy slots room (opens work)) ≡ 0
         → Matches slots room s (opens work .given) (openCall h (memoryOf s [])) (turn b (fedBy slots room (opens work)))
     unfolding turn
     open-begins b e =
-        let z : firstRefusal openChecks ≡ 0 = open-gives .is ∙ e in
-        rw (sym (open-gives .is)) (begins b fresh (opens work .given) h (shows (h .vertices) (h .longest)) (λ n. refl) open-result z (open-reaches z))
+        let z : firstRefusal checks ≡ 0 = open-gives .is ∙ e in
+        rw (sym (open-gives .is)) (begins b fresh (opens work .given) h (h .size) given (λ n. refl) open-result z (open-reaches z))
 
     pub open-first : (b : Book) → replyTo (opens work .given) (openCall h (memoryOf s []) .reply) ≡ turn b (fedBy slots room (opens work)) .reply
     unfolding turn
-    open-first b = rw (sym (open-gives .is)) (first-reply b fresh (opens work .given) h (shows (h .vertices) (h .longest)) (λ n. refl) (firstRefusal openChecks) s open-result open-reaches)
+    open-first b = rw (sym (open-gives .is)) (first-reply b fresh (opens work .given) h (h .size) given (λ n. refl) (firstRefusal checks) s open-result open-reaches)
 
   pub open-matches : (work : List ℕ) {slots room : ℕ} {b : Book} → Fine slots room b
       → Matches slots room (stationOf slots room b) (opens work .given) (openCall h (memoryOf (stationOf slots room b) [])) (turn b (fedBy slots room (opens work)))
@@ -126,5 +133,5 @@ module _ (h : Header) where
   open-matches work {slots} {room} {b} f =
       let s = stationOf slots room b in
       rw (sym (open-gives work s (edge-slots f) (index-slots f) .is))
-      (matches b fresh (opens work .given) h (shows (h .vertices) (h .longest)) (λ n. refl) (firstRefusal (openChecks work s (edge-slots f) (index-slots f))) (open-result work s (edge-slots f) (index-slots f)) f
+      (matches b fresh (opens work .given) h (h .size) given (λ n. refl) (firstRefusal (checks work s (edge-slots f) (index-slots f))) (open-result work s (edge-slots f) (index-slots f)) f
       (open-reaches work s (edge-slots f) (index-slots f)))

@@ -17,11 +17,12 @@ use Rattle.model.proofs.Lists.{sorted-imp}
 use Rattle.model.proofs.Edges.{IsEdge, test-edge}
 use Rattle.model.proofs.Counting.{no-more, rising-same}
 use Rattle.calls.proofs.Card.{card-good}
-use Rattle.demands.specs.Ledger.{opening, insertion, card, Fed, Book, rising, bookEntries, when, outside, full, openingNumber, namedNumber, inserted, insertionNumber, cardBook, shows, LedgerReply, Turn, turn, Account, ledger}
+use Rattle.demands.specs.Ledger.{opening, insertion, card, Fed, Book, rising, bookEntries, when, outside, full, openingNumber, namedNumber, inserted, insertionNumber, cardBook, showing, LedgerReply, Turn, turn, Account, ledger}
 use Rattle.demands.specs.Run.Station.{Call, memoryOf, fedBy}
 use Rattle.demands.specs.Terms.{blank, by-opening, by-card}
 use Rattle.demands.specs.Run.Receiving.{receiving, Suffices, ReceivingSame}
 use Rattle.demands.proofs.Rising.{edge-below, rising-rises, rising-in, rising-out}
+use Rattle.demands.proofs.Totals.{tally-is}
 use Rattle.demands.proofs.Steps.{stationOf, Fine}
 use Rattle.demands.proofs.CardReader.{edges-agree}
 use Rattle.demands.proofs.Demand3.{begun, first-number, agreed}
@@ -149,13 +150,13 @@ module _ {slots room : ℕ} {b : Book} (fine : Fine slots room b) (rises : Risin
       })
     where
       taken : Turn
-      taken = record { reply = record { number = 0; shown = shows (b .vertices) (b .longest) }; book = holding (x ∷ held) }
+      taken = record { reply = record { number = 0; shown = showing (holding (x ∷ held)) }; book = holding (x ∷ held) }
 
   -- the opening as well: what the ledger then holds is what the book holds
-  received : openingNumber (b .vertices) (b .longest) (fedBy slots room (record { given = opening (b .vertices) (b .longest); work = [] })) ≡ 0
-      → Received (ledger blank (map (fedBy slots room) (receiving b works)))
+  received : (totals : List ℕ) → openingNumber (b .vertices) (b .longest) (fedBy slots room (record { given = opening (b .vertices) (b .longest) totals; work = [] })) ≡ 0
+      → Received (ledger blank (map (fedBy slots room) (receiving b totals works)))
   unfolding ledger turn
-  received e =
+  received totals e =
       let later = laid [] (b .edges) [] refl (record { there = λ z m. m; back = λ z m. m }) in
       rw e (record {
         accepted = λ r m. ⊎-elim (λ q. rw q refl) (later .accepted r) (List·Memᴰ·cases-cons m);
@@ -164,18 +165,18 @@ module _ {slots room : ℕ} {b : Book} (fine : Fine slots room b) (rises : Risin
         same = later .same;
       })
 
-  opened : openingNumber (b .vertices) (b .longest) (fedBy slots room (record { given = opening (b .vertices) (b .longest); work = [] })) ≡ 0
+  opened : (totals : List ℕ) → openingNumber (b .vertices) (b .longest) (fedBy slots room (record { given = opening (b .vertices) (b .longest) totals; work = [] })) ≡ 0
   unfolding openingNumber
-  opened =
+  opened totals =
       not-when 1 (not-outside 1 mostVertices (b .vertices) (fine .bounds .vertices-least) (fine .bounds .vertices-most))
       ∙ not-when 2 (not-outside 1 mostLongest (b .longest) (fine .bounds .longest-least) (fine .bounds .longest-most))
       ∙ not-when 3 (test-false (test-lt mostEdges slots) (λ h. omega (arith, fine .few)))
 
   station-same : {held : List ℕ} → Same held (b .edges) → stationOf slots room (holding held) ≡ stationOf slots room b
-  station-same same = rw (same-rising (λ z k. k) same) refl
+  station-same {held} same = rw (tally-is held, tally-is (b .edges), same-rising (λ z k. k) same) refl
 
 pub receiving-same : ReceivingSame
-receiving-same s bytes small work works e enough =
+receiving-same s bytes small work totals works e enough =
     let slots = length (s .edges) in
     let room = length (s .index) in
     let c = read-said bytes (memoryOf s work) small e in
@@ -184,9 +185,9 @@ receiving-same s bytes small work works e enough =
     let m = begun s call by-card (sym (first-number s call by-card) ∙ e) in
     let set : turn blank (fedBy slots room call) .book ≡ cardBook bytes = unfold turn in rw (sym (first-number s call by-card) ∙ e) refl in
     let fine : Fine slots room (cardBook bytes) = rw set at (m .fine) in
-    let r = received fine rises enough (opened fine rises enough) in
-    let first : Call = record { given = opening (cardBook bytes .vertices) (cardBook bytes .longest); work = [] } in
-    let a = agreed s first (map (lay fine rises enough) (cardBook bytes .edges)) by-opening (opened fine rises enough) in
+    let r = received fine rises enough totals (opened fine rises enough totals) in
+    let first : Call = record { given = opening (cardBook bytes .vertices) (cardBook bytes .longest) totals; work = [] } in
+    let a = agreed s first (map (lay fine rises enough) (cardBook bytes .edges)) by-opening (opened fine rises enough totals) in
     record {
       accepted = λ x k. r .accepted x (rw (a .replies) at k);
       same = rw (a .station, r .book, m .next, set) (station-same fine rises enough {held = r .held} (r .same));

@@ -1,45 +1,48 @@
 -- Demand 2 (a): questions put with the record and the memory that an accepted change left are answered rightly.
 use mathlib.Core.Path.{_≡_, refl, sym, ap, subst, _∙_}
-use mathlib.Core.Logic.{⊎-elim, _↔_}
+use mathlib.Core.Logic.{⊎-elim, _↔_, _≢_}
 use mathlib.Core.Bool.{true, false, _||_}
 use mathlib.Core.List.{List, [], _∷_, _++_, List·Memᴰ·not-nil}
-use Prim.Native.Nat.{ℕ, _*_, _≤_, _<_}
+use Prim.Native.Nat.{ℕ, zero, suc, _*_, _≤_, _<_}
+use native.Mathlib.Decide.{decLt}
 use native.Mathlib.Omega.{arith}
 use lib.Dec.{leb}
 use lib.ListN.{length}
 use Rattle.model.specs.Limits.{mostVertices, mostEdges, mostLongest, leastWork}
 use Rattle.model.specs.Lists.{_∈_, Sorted, Rising, filled, zeroed, Bytes}
-use Rattle.model.specs.Edges.{Graph, Bounds, edgeNumber, standing}
+use Rattle.model.specs.Edges.{Graph, Bounds, edgeNumber, standing, totalsOf}
 use Rattle.model.specs.Patterns.{Keyed, MinRepeat}
+use Rattle.model.specs.Walks.{Runs}
 use Rattle.model.specs.Entries.{Asked}
 use Rattle.model.specs.Routes.{Yes as RoutedYes}
-use Rattle.model.specs.Query.{Yes, Refused}
+use Rattle.model.specs.Query.{Answered, Yes, No, Refused}
 use Rattle.model.specs.Computed.Edges.{Small, edge?, edgeMemory?, insertEdge, removeEdge}
 use Rattle.model.specs.Computed.Patterns.{keyed?, once?}
 use Rattle.model.specs.Computed.Order.{counted}
 use Rattle.model.specs.Computed.Entries.{determined}
-use Rattle.model.specs.Computed.Query.{indexMemory?}
 use Rattle.model.proofs.Tests.{Tests, test-true, test-false, test-yields, test-not, test-mem, test-le, test-lt, test-dec}
 use Rattle.model.proofs.Edges.{edge-named}
 use Rattle.model.proofs.Patterns.{test-keyed, test-once}
 use Rattle.model.proofs.Routes.{candidate-runs}
 use Rattle.model.proofs.Insertion.{length-insert, member-insert, rising-insert, length-remove, rising-remove, member-left}
 use Rattle.model.proofs.Memory.{edge-memory, edge-least, standing-filled, standing-zeroed, filled-memory}
+use Rattle.model.proofs.Totals.{total-at, runs-total}
 use Rattle.model.proofs.Zeros.{Ordered, filled-within}
-use Rattle.calls.specs.Checks.{vertices?, longest?, ends?, Check, firstRefusal}
-use Rattle.calls.specs.Call.{Header, graphOf, Memory, lent, lentOut, Outcome, Returned}
+use Rattle.calls.specs.Checks.{ends?, Check, firstRefusal}
+use Rattle.calls.specs.Call.{Size, Header, graphOf, Memory, lent, lentOut, Outcome, Returned, noRecord}
 use Rattle.calls.specs.Search.{searchRefusal}
 use Rattle.calls.specs.Route.{routeCall}
-use Rattle.calls.specs.Query.{queryRefusal, queryCall}
-use Rattle.calls.specs.Change.{changeChecks, changeRefusal, openRefusal, openCall, insertRefusal, insertCall, removeRefusal, removeCall}
+use Rattle.calls.specs.Query.{askRefusal, fullRefusal, fullCall, lacking?, queryCall}
+use Rattle.calls.specs.Change.{handing, changeChecks, changeRefusal, openChecks, openRefusal, openChange, openCall, insertRefusal, insertChange, insertCall, removeRefusal, removeChange, removeCall}
 use Rattle.calls.specs.Card.{readCall}
 use Rattle.calls.proofs.Checks.{First, none, pass, stop, first-is, bounded, bounds-pass, test-ends}
 use Rattle.calls.proofs.Change.{ChangeGood, change-good, front-passes}
 use Rattle.calls.proofs.Settling.{settledChange, Result, settled, with-number, accepted-zero}
 use Rattle.calls.proofs.Passing.{passing}
-use Rattle.calls.proofs.Query.{within}
-use Rattle.demands.specs.Demand2.{Judged, Lit, Right, RightAfter}
-use Rattle.demands.proofs.Asking.{judged, judged-runs, runs-judged, number-refuses, once-is, search-right}
+use Rattle.calls.proofs.Query.{within, ask-leaves, ask-passes, test-lacking, query-refuses, query-lacking, full-refuses, query-full}
+use Rattle.demands.specs.Demand1.{Lacks}
+use Rattle.demands.specs.Demand2.{Judged, runs-not, Lit, Right, RightAfter}
+use Rattle.demands.proofs.Asking.{judged, judged-runs, runs-judged, not-judged, number-refuses, once-is, search-right}
 use Rattle.demands.proofs.Routing.{lit-route, runs-lit, route-lit}
 use Rattle.demands.proofs.Index.{whole-passes, answer-right}
 use Rattle.demands.proofs.Openings.{no-entries, blank-filled}
@@ -68,11 +71,21 @@ module _ (g : Graph) (bounds : Bounds (g .vertices) (g .longest)) (slots room : 
   abbrev index : List ℕ
   index = filled room (determined g)
 
+  abbrev z : Size
+  z = record { vertices = g .vertices; longest = g .longest }
+
+  -- "the record .. has those of its standing legs"
   abbrev h : Header
-  h = record { vertices = g .vertices; longest = g .longest }
+  h = record { size = z; totals = totalsOf (g .edges) }
 
   small : Small g
   small = record { vertices-small = bounds .vertices-most; longest-small = bounds .longest-most }
+
+  -- no walk runs a pattern that lacks a label
+  none-runs : {s t : ℕ} {l : List ℕ} → Keyed (g .longest) l → Lacks (totalsOf (g .edges)) l → ¬ Runs g l s t
+  none-runs k (c, there, e) r =
+      let (low, high) = k .labels c there in
+      omega (arith, e, total-at (g .edges) c low high, runs-total g (bounds .vertices-most) r c there high)
 
   module _ (other work : List ℕ) (s t : ℕ) (l : List ℕ) where
     abbrev m : Memory
@@ -83,138 +96,185 @@ module _ (g : Graph) (bounds : Bounds (g .vertices) (g .longest)) (slots room : 
     later = (3, once? l || edgeMemory? (g .vertices) other) ∷ (4, once? l || leb leastWork (length work)) ∷ []
 
     -- the record passes 1 and 2
-    after-header : {n : ℕ} → First ((10, ends? (g .vertices) s t) ∷ (11, keyed? (g .longest) l) ∷ (12, indexMemory? (g .vertices) (g .longest) index) ∷ later) n
-        → queryRefusal h s t l m ≡ n
-    unfolding queryRefusal
+    after-header : {n : ℕ} → First ((10, ends? (g .vertices) s t) ∷ (11, keyed? (g .longest) l) ∷ []) n → askRefusal z s t l ≡ n
+    unfolding askRefusal
     after-header f = first-is (bounds-pass bounds f)
 
-    ends-refused : ¬ ((s < g .vertices) × (t < g .vertices)) → queryCall h s t l m .reply ≡ Refused 10
-    ends-refused d = number-refuses h s t l m (after-header (stop (test-false (test-ends (g .vertices) s t) d)))
+    ends-refused : ¬ ((s < g .vertices) × (t < g .vertices)) → queryCall h s t l m ≡ record { reply = Refused 10; memory = m }
+    ends-refused d = query-refuses h s t l m (after-header (stop (test-false (test-ends (g .vertices) s t) d)))
 
     module _ (hs : s < g .vertices) (ht : t < g .vertices) where
-      pattern-refused : ¬ Keyed (g .longest) l → queryCall h s t l m .reply ≡ Refused 11
+      pattern-refused : ¬ Keyed (g .longest) l → queryCall h s t l m ≡ record { reply = Refused 11; memory = m }
       pattern-refused d =
-          number-refuses h s t l m
+          query-refuses h s t l m
           (after-header (pass (test-true (test-ends (g .vertices) s t) (hs, ht)) (stop (test-false (test-keyed (g .longest) l) d))))
 
       module _ (k : Keyed (g .longest) l) where
+        -- ---- the full question
+
         -- index memory passes 12
-        after-index : {n : ℕ} → First later n → queryRefusal h s t l m ≡ n
-        unfolding determined
+        after-index : {n : ℕ} → First later n → fullRefusal z s t l m ≡ n
+        unfolding determined fullRefusal
         after-index f =
-            after-header (pass (test-true (test-ends (g .vertices) s t) (hs, ht))
-            (pass (test-true (test-keyed (g .longest) l) k) (pass (whole-passes g (counted g) small room) f)))
+            first-is (bounds-pass bounds (pass (test-true (test-ends (g .vertices) s t) (hs, ht))
+            (pass (test-true (test-keyed (g .longest) l) k) (pass (whole-passes g (counted g) small room) f))))
 
         own? : Tests (once? l) (MinRepeat l l)
         own? = test-once l (within bounds k)
 
-        once-judged : MinRepeat l l → Judged g l s t (queryCall h s t l m .reply)
+        full-once : MinRepeat l l → Judged g l s t (fullCall z s t l m .reply)
         unfolding determined
-        once-judged own =
+        full-once own =
             let e : once? l ≡ true = test-true own? own in
             let none = after-index (pass (rw e refl) (pass (rw e refl) none)) in
             let q : Asked g l s t = record { from = hs; to = ht; pattern = record { keyed = k; own = own } } in
-            rw (once-is h s t l m none own) (judged _ (answer-right g (counted g) small room q))
+            rw (once-is z s t l m none own) (judged _ (answer-right g (counted g) small room q))
 
         module _ (more : ¬ MinRepeat l l) (here : other ≡ edges) where
           three : once? l || edgeMemory? (g .vertices) other ≡ true
           three = rw (test-false own? more, here) (memory-passes can)
 
-          searched-judged : leastWork ≤ length work → Judged g l s t (queryCall h s t l m .reply)
-          searched-judged enough =
+          full-searched : leastWork ≤ length work → Judged g l s t (fullCall z s t l m .reply)
+          full-searched enough =
               let four : once? l || leb leastWork (length work) ≡ true = rw (test-false own? more) (test-true (test-le leastWork (length work)) enough) in
               let same : standing other ≡ g .edges = ap standing here ∙ stands can in
-              subst (λ (x : List ℕ). Judged (graphOf h x) l s t (queryCall h s t l m .reply)) same
-              (search-right h s t l m (after-index (pass three (pass four none))) more)
+              subst (λ (x : List ℕ). Judged (graphOf z x) l s t (fullCall z s t l m .reply)) same
+              (search-right z s t l m (after-index (pass three (pass four none))) more)
 
-          work-refused : length work < leastWork → queryCall h s t l m .reply ≡ Refused 4
-          work-refused less =
+          full-less : length work < leastWork → fullCall z s t l m .reply ≡ Refused 4
+          full-less less =
               let four : once? l || leb leastWork (length work) ≡ false
               = rw (test-false own? more) (test-false (test-le leastWork (length work)) (λ z. omega (arith, z))) in
-              number-refuses h s t l m (after-index (pass three (stop four)))
+              number-refuses z s t l m (after-index (pass three (stop four)))
+
+        -- ---- and the question, by the rule of totals
+
+        lacks? : Tests (lacking? (totalsOf (g .edges)) l) (Lacks (totalsOf (g .edges)) l)
+        lacks? = test-lacking (totalsOf (g .edges)) l
+
+        -- if a label is lacking, whatever memory is lent
+        lacking-no : Lacks (totalsOf (g .edges)) l → (m : Memory) → queryCall h s t l m .reply ≡ No
+        lacking-no lacks m = rw (query-lacking h s t l m (ask-passes bounds hs ht k) (test-true lacks? lacks)) refl
+
+        -- it is judged rightly where the full question is
+        as-full : Judged g l s t (fullCall z s t l m .reply) → Judged g l s t (queryCall h s t l m .reply)
+        as-full j = elim (test-dec lacks?) [
+          | yes lacks ↦ rw (lacking-no lacks m) (runs-not (none-runs k lacks))
+          | no whole ↦ rw (query-full h s t l m (test-false lacks? whole)) j
+        ]
+
+        work-refused : ¬ MinRepeat l l → other ≡ edges → ¬ Lacks (totalsOf (g .edges)) l → length work < leastWork → queryCall h s t l m .reply ≡ Refused 4
+        work-refused more here whole less = rw (query-full h s t l m (test-false lacks? whole)) (full-less more here less)
+
+        -- and is the full reply, unless that is 4
+        full-same : other ≡ edges → fullCall z s t l m .reply ≢ Refused 4 → queryCall h s t l m .reply ≡ fullCall z s t l m .reply
+        full-same here d = elim (test-dec lacks?) [
+          | yes lacks ↦ lacking-no lacks m ∙ sym (not-judged (judged-here (test-dec own?)) (none-runs k lacks))
+          | no whole ↦ ap (λ (c : Outcome Answered). c .reply) (query-full h s t l m (test-false lacks? whole))
+        ]
+          where
+            judged-here : Dec (MinRepeat l l) → Judged g l s t (fullCall z s t l m .reply)
+            judged-here (yes own) = full-once own
+            judged-here (no more) = elim (decLt (length work) leastWork) [
+              | yes less ↦ absurd (d (full-less more here less))
+              | no enough ↦ full-searched more here (omega (arith, enough))
+            ]
 
   -- ---- routes
 
   module _ (s t : ℕ) (l : List ℕ) (hs : s < g .vertices) (ht : t < g .vertices) (k : Keyed (g .longest) l) (walk work : List ℕ) (enough : leastWork ≤ length work) where
-    route-none : searchRefusal h s t l (lentOut edges work walk) ≡ 0
+    route-none : searchRefusal z s t l (lentOut edges work walk) ≡ 0
     unfolding searchRefusal
     route-none =
         first-is (bounds-pass bounds (pass (memory-passes can) (pass (test-true (test-le leastWork (length work)) enough)
         (pass (test-true (test-ends (g .vertices) s t) (hs, ht)) (pass (test-true (test-keyed (g .longest) l) k) none)))))
 
-    shown : let c = routeCall h s t l (lentOut edges work walk) in Lit g l s t walk (c .reply) (c .memory .output)
+    shown : let c = routeCall z s t l (lentOut edges work walk) in Lit g l s t walk (c .reply) (c .memory .output)
     shown =
-        let c = routeCall h s t l (lentOut edges work walk) in
-        subst (λ (x : List ℕ). Lit (graphOf h x) l s t walk (c .reply) (c .memory .output)) (stands can) (route-lit h s t l (lentOut edges work walk) route-none)
+        let c = routeCall z s t l (lentOut edges work walk) in
+        subst (λ (x : List ℕ). Lit (graphOf z x) l s t walk (c .reply) (c .memory .output)) (stands can) (route-lit z s t l (lentOut edges work walk) route-none)
 
     asked : Judged g l s t (queryCall h s t l (lent edges index work) .reply)
-    asked = elim (test-dec (own? edges work s t l hs ht k)) [
-      | yes own ↦ once-judged edges work s t l hs ht k own
-      | no more ↦ searched-judged edges work s t l hs ht k more refl enough
-    ]
+    asked = as-full edges work s t l hs ht k (elim (test-dec (own? edges work s t l hs ht k)) [
+      | yes own ↦ full-once edges work s t l hs ht k own
+      | no more ↦ full-searched edges work s t l hs ht k more refl enough
+    ])
 
     shown-if : mostLongest * mostVertices ≤ length walk
-        → (queryCall h s t l (lent edges index work) .reply ≡ Yes) ↔ ((n : ℕ) × (routeCall h s t l (lentOut edges work walk) .reply ≡ RoutedYes n))
+        → (queryCall h s t l (lent edges index work) .reply ≡ Yes) ↔ ((n : ℕ) × (routeCall z s t l (lentOut edges work walk) .reply ≡ RoutedYes n))
     shown-if long = (λ e. runs-lit bounds k hs ht long shown (judged-runs asked e), λ (n, e). let (es, r, _) = lit-route shown e in runs-judged asked (candidate-runs (r .runs)))
+
+  -- whatever is asked
+  full : (s t : ℕ) (l work : List ℕ) → fullCall z s t l (lent edges index work) .reply ≢ Refused 4
+      → queryCall h s t l (lent edges index work) .reply ≡ fullCall z s t l (lent edges index work) .reply
+  full s t l work d = go (askRefusal z s t l) refl
+    where
+      go : (n : ℕ) → askRefusal z s t l ≡ n → queryCall h s t l (lent edges index work) .reply ≡ fullCall z s t l (lent edges index work) .reply
+      go zero e = let a = ask-leaves z s t l e in full-same edges work s t l (a .start-vertex) (a .destination-vertex) (a .keyed) refl d
+      go (suc n) e = rw (query-refuses h s t l (lent edges index work) e, full-refuses h s t l (lent edges index work) e) refl
 
   pub right : Right h edges index g
   right =
       record {
-        once = λ s t l hs ht p other work. once-judged other work s t l hs ht (p .keyed) (p .own);
-        repeating = λ s t l hs ht k more work. searched-judged edges work s t l hs ht k more refl;
-        less = λ s t l hs ht k more work. work-refused edges work s t l hs ht k more refl;
-        ends = λ s t l d other work. ends-refused other work s t l d;
-        patterns = λ s t l hs ht d other work. pattern-refused other work s t l hs ht d;
+        totals = refl;
+        once = λ s t l hs ht p other work. as-full other work s t l hs ht (p .keyed) (full-once other work s t l hs ht (p .keyed) (p .own));
+        repeating = λ s t l hs ht k more work enough. as-full edges work s t l hs ht k (full-searched edges work s t l hs ht k more refl enough);
+        lacking = λ s t l hs ht k lacks m. (lacking-no [] [] s t l hs ht k lacks m, none-runs k lacks);
+        full = full;
+        less = λ s t l hs ht k more whole work. work-refused edges work s t l hs ht k more refl whole;
+        ends = λ s t l d other work. ap replied (ends-refused other work s t l d);
+        patterns = λ s t l hs ht d other work. ap replied (pattern-refused other work s t l hs ht d);
         routes = shown;
         given = shown-if;
       }
+    where
+      replied : Outcome Answered → Answered
+      replied c = c .reply
 
 -- ---- after an accepted change
 
-settled-right : (h : Header) (wanted : List ℕ) (m : Memory) → Bounds (h .vertices) (h .longest) → Standable (h .vertices) (length (m .edges)) wanted
-    → RightAfter (settledChange h wanted m)
-settled-right h wanted m bounds can =
-    subst (λ (l : List ℕ). Right h (filled (length (m .edges)) wanted) (filled (length (m .index)) (determined (graphOf h wanted))) (graphOf h l))
+settled-right : (given : Header) (h : Size) (wanted : List ℕ) (m : Memory) → Bounds (h .vertices) (h .longest) → Standable (h .vertices) (length (m .edges)) wanted
+    → RightAfter (handing given h (settledChange h wanted m))
+settled-right given h wanted m bounds can =
+    subst (λ (l : List ℕ). Right (record { size = h; totals = totalsOf l }) (filled (length (m .edges)) wanted) (filled (length (m .index)) (determined (graphOf h wanted))) (graphOf h l))
     (sym (stands can)) (right (graphOf h wanted) bounds (length (m .edges)) (length (m .index)) can)
 
-accepted-right : {c : Outcome Returned} {given h : Header} {wanted : List ℕ} {m : Memory} (n : ℕ) → Result c given m (settledChange h wanted m) n
+accepted-right : {c : Outcome Returned} {given : Header} {h : Size} {wanted : List ℕ} {m : Memory} (n : ℕ) → Result c given m (handing given h (settledChange h wanted m)) n
     → c .reply .answer ≡ 0 → (n ≡ 0 → Bounds (h .vertices) (h .longest) × Standable (h .vertices) (length (m .edges)) wanted) → RightAfter c
-accepted-right {h = h} {wanted = wanted} {m = m} n r e f =
+accepted-right {given = given} {h = h} {wanted = wanted} {m = m} n r e f =
     let z = accepted-zero n r e in
     let (bounds, can) = f z in
-    subst RightAfter (sym (r .accepted z)) (settled-right h wanted m bounds can)
+    subst RightAfter (sym (r .accepted z)) (settled-right given h wanted m bounds can)
 
 pub open-right : (h : Header) (m : Memory) → openCall h m .reply .answer ≡ 0 → RightAfter (openCall h m)
-unfolding openCall openRefusal
+unfolding openCall openChange openRefusal
 open-right h m e =
-    let r = with-number (firstRefusal checks) h m done in
-    let z = accepted-zero (firstRefusal checks) r e in
-    let (v, (k, (few, _))) = passing checks tt z in
+    let r = with-number h (h .size) (firstRefusal (openChecks (h .size) m)) m done in
+    let z = accepted-zero (firstRefusal (openChecks (h .size) m)) r e in
+    let (v, (k, (few, _))) = passing (openChecks (h .size) m) tt z in
     subst RightAfter (sym (r .accepted z)) (fresh (bounded v k) (test-yields (test-le (length (m .edges)) mostEdges) few))
   where
-    checks : List Check
-    checks = (1, vertices? (h .vertices)) ∷ (2, longest? (h .longest)) ∷ (3, leb (length (m .edges)) mostEdges) ∷ []
+    done : Outcome ℕ
+    done = record { reply = 0; memory = record { edges = zeroed (m .edges); index = zeroed (m .index); work = m .work; output = m .output } }
 
-    done : Outcome Returned
-    done =
-        record {
-          reply = record { header = h; answer = 0 };
-          memory = record { edges = zeroed (m .edges); index = zeroed (m .index); work = m .work; output = m .output };
-        }
+    -- with those edges standing
+    RightWith : (standing edges index : List ℕ) → Type 0
+    RightWith l edges index = Right (record { size = h .size; totals = totalsOf l }) edges index (graphOf (h .size) l)
 
-    fresh : Bounds (h .vertices) (h .longest) → length (m .edges) ≤ mostEdges → RightAfter done
+    fresh : Bounds (h .size .vertices) (h .size .longest) → length (m .edges) ≤ mostEdges → RightAfter (handing h (h .size) done)
     fresh b few =
-        let can : Standable (h .vertices) (length (m .edges)) []
+        let can : Standable (h .size .vertices) (length (m .edges)) []
         = record { few = few; fits = omega arith; rises = Sorted.none; valid = λ x k. absurd (List·Memᴰ·not-nil k) } in
         let none-stand : standing (zeroed (m .edges)) ≡ [] = standing-zeroed (length (m .edges)) in
-        let empty : determined (graphOf h []) ≡ [] = no-entries (graphOf h []) refl (record { vertices-small = b .vertices-most; longest-small = b .longest-most }) in
-        let zeros : filled (length (m .index)) (determined (graphOf h [])) ≡ zeroed (m .index) = rw empty (sym (blank-filled (length (m .index)))) in
-        subst (λ (l : List ℕ). Right h (zeroed (m .edges)) (zeroed (m .index)) (graphOf h l)) (sym none-stand)
-        (subst (λ (l : List ℕ). Right h (zeroed (m .edges)) l (graphOf h [])) zeros
-        (subst (λ (l : List ℕ). Right h l (filled (length (m .index)) (determined (graphOf h []))) (graphOf h [])) (sym (blank-filled (length (m .edges))))
-        (right (graphOf h []) b (length (m .edges)) (length (m .index)) can)))
+        let g = graphOf (h .size) [] in
+        let empty : determined g ≡ [] = no-entries g refl (record { vertices-small = b .vertices-most; longest-small = b .longest-most }) in
+        let zeros : filled (length (m .index)) (determined g) ≡ zeroed (m .index) = rw empty (sym (blank-filled (length (m .index)))) in
+        subst (λ (l : List ℕ). RightWith l (zeroed (m .edges)) (zeroed (m .index))) (sym none-stand)
+        (subst (λ (l : List ℕ). RightWith [] (zeroed (m .edges)) l) zeros
+        (subst (λ (l : List ℕ). RightWith [] l (filled (length (m .index)) (determined g))) (sym (blank-filled (length (m .edges))))
+        (right g b (length (m .edges)) (length (m .index)) can)))
 
-module _ (h : Header) (from label to : ℕ) (m : Memory) where
+module _ (h : Size) (from label to : ℕ) (m : Memory) where
   abbrev x : ℕ
   x = edgeNumber from label to
 
@@ -251,23 +311,33 @@ module _ (h : Header) (from label to : ℕ) (m : Memory) where
           valid = λ y k. o .each y (member-left x L k) .1;
         }
 
+module _ (h : Header) (from label to : ℕ) (m : Memory) where
+  abbrev edge : ℕ
+  edge = edgeNumber from label to
+
+  abbrev standing-edges : List ℕ
+  standing-edges = standing (m .edges)
+
   pub insert-right : insertCall h from label to m .reply .answer ≡ 0 → RightAfter (insertCall h from label to m)
-  unfolding insertCall insertRefusal
+  unfolding insertCall insertChange insertRefusal
   insert-right e =
-      accepted-right _ (settled h h (insertEdge x L) m _ tt) e (λ z.
-      let g = begun _ z in
-      let (_, (_, (_, (_, (_, (_, (new, (room, _)))))))) = passing _ tt z in
-      (g .header, inserted-can g (test-yields (test-not (test-mem x L)) new) (test-yields (test-lt (length L) (length (m .edges))) room)))
+      accepted-right _ (settled h (h .size) (insertEdge edge standing-edges) m _ tt) e (λ q.
+      let g = begun (h .size) from label to m _ q in
+      let (_, (_, (_, (_, (_, (_, (new, (room, _)))))))) = passing _ tt q in (
+        g .header,
+        inserted-can (h .size) from label to m g (test-yields (test-not (test-mem edge standing-edges)) new)
+            (test-yields (test-lt (length standing-edges) (length (m .edges))) room),
+      ))
 
   pub remove-right : removeCall h from label to m .reply .answer ≡ 0 → RightAfter (removeCall h from label to m)
-  unfolding removeCall removeRefusal
+  unfolding removeCall removeChange removeRefusal
   remove-right e =
-      accepted-right _ (settled h h (removeEdge x L) m _ tt) e (λ z.
-      let g = begun _ z in
-      let (_, (_, (_, (_, (_, (_, (old, _))))))) = passing _ tt z in
-      (g .header, removed-can g (test-yields (test-mem x L) old)))
+      accepted-right _ (settled h (h .size) (removeEdge edge standing-edges) m _ tt) e (λ q.
+      let g = begun (h .size) from label to m _ q in
+      let (_, (_, (_, (_, (_, (_, (old, _))))))) = passing _ tt q in
+      (g .header, removed-can (h .size) from label to m g (test-yields (test-mem edge standing-edges) old)))
 
 pub read-right : (bytes : List ℕ) (m : Memory) → Bytes bytes → readCall bytes m .reply .answer ≡ 0 → RightAfter (readCall bytes m)
 read-right bytes m small e =
     let c = read-said bytes m small e in
-    subst RightAfter (sym (c .is)) (settled-right _ _ m (c .bounds) (record { few = c .few; fits = c .fits; rises = c .rising; valid = c .valid }))
+    subst RightAfter (sym (c .is)) (settled-right noRecord _ _ m (c .bounds) (record { few = c .few; fits = c .fits; rises = c .rising; valid = c .valid }))

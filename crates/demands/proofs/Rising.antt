@@ -8,7 +8,7 @@ use Rattle.model.specs.Limits.{mostVertices, fromUnit}
 use Rattle.model.specs.Lists.{_∈_, mem?, upTo, Rising}
 use Rattle.model.specs.Computed.Edges.{edge?}
 use Rattle.model.proofs.Tests.{test-mem, test-yields}
-use Rattle.model.proofs.Lists.{keep-in, keep-out, up-to, rising-from, sorted-keep}
+use Rattle.model.proofs.Lists.{keep-in, keep-out, up-to, below, rising-from, sorted-keep}
 use Rattle.model.proofs.Edges.{test-edge}
 use Rattle.model.proofs.Counting.{rising-same}
 use Rattle.demands.specs.Ledger.{rising}
@@ -29,6 +29,10 @@ module _ (edges : List ℕ) where
   pub rising-out : {x : ℕ} → x ∈ rising edges → x ∈ edges
   unfolding rising
   rising-out {x} m = (test-mem x edges) .yields (keep-out (λ x. mem? x edges) (upTo (mostVertices * fromUnit)) m .1)
+
+  pub rising-below : {x : ℕ} → x ∈ rising edges → x < mostVertices * fromUnit
+  unfolding rising
+  rising-below m = below (keep-out (λ x. mem? x edges) (upTo (mostVertices * fromUnit)) m .0)
 
   pub rising-in : {x : ℕ} → x < mostVertices * fromUnit → x ∈ edges → x ∈ rising edges
   unfolding rising

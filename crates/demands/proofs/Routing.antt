@@ -21,7 +21,7 @@ use Rattle.model.proofs.Search.{told, decides}
 use Rattle.model.proofs.Routes.{candidate-long, candidate-runs, reply-route, route-short}
 use Rattle.model.proofs.RouteSearch.{RoutedBy, is-route, no-route, route-of}
 use Rattle.calls.specs.Checks.{vertices?, longest?, ends?, Check}
-use Rattle.calls.specs.Call.{Header, graphOf, Memory, Outcome}
+use Rattle.calls.specs.Call.{Size, graphOf, Memory, Outcome}
 use Rattle.calls.specs.Search.{searchRefusal, searchCall}
 use Rattle.calls.specs.Route.{routeCall}
 use Rattle.calls.proofs.Passing.{passing}
@@ -60,7 +60,7 @@ decides-yes : {g : Graph} {l : List ℕ} {s t : ℕ} {r : Reply} → Decides g l
 decides-yes (runs c p) q = (c, refl)
 decides-yes (runs-not c d) q = absurd (d q)
 
-module _ (h : Header) (s t : ℕ) (l : List ℕ) (m : Memory) where
+module _ (h : Size) (s t : ℕ) (l : List ℕ) (m : Memory) where
   abbrev graph : Graph
   graph = graphOf h (standing (m .edges))
 

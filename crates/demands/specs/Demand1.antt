@@ -3,14 +3,14 @@
 use mathlib.Core.Path.{_≡_}
 use mathlib.Core.Logic.{_⊎_}
 use mathlib.Core.List.{List, [], _++_}
-use Prim.Native.Nat.{ℕ, _≤_}
-use lib.ListN.{take, drop}
-use Rattle.model.specs.Lists.{zeroed}
+use Prim.Native.Nat.{ℕ, _-_, _≤_}
+use lib.ListN.{getD, take, drop}
+use Rattle.model.specs.Lists.{_∈_, zeroed}
 use Rattle.model.specs.Patterns.{MinRepeat}
 use Rattle.model.specs.Query.{Answered, Yes as AnsweredYes, No as AnsweredNo, Refused as AnsweredRefused}
 use Rattle.model.specs.Routes.{Routed, Yes as RoutedYes, No as RoutedNo, Refused as RoutedRefused}
 use Rattle.model.specs.States.{Reply, Yes, No, Spent, Refused}
-use Rattle.calls.specs.Call.{Header, Memory, lent, cleared, Outcome, Returned, Wrote, Length, Refused as NotWritten, noRecord}
+use Rattle.calls.specs.Call.{Size, Header, Memory, lent, cleared, Outcome, Returned, Wrote, Length, Refused as NotWritten, noRecord}
 use Rattle.calls.specs.Search.{searchCall}
 use Rattle.calls.specs.Route.{routeCall}
 use Rattle.calls.specs.Query.{queryCall}
@@ -56,10 +56,15 @@ abbrev pub writeNumber : Wrote → ℕ
 writeNumber (Length n) = 0
 writeNumber (NotWritten n) = n
 
+-- a label (colour) of the pattern "whose total is 0" (document 02, Four)
+abbrev pub Lacks : (totals pattern : List ℕ) → Type 0
+Lacks totals pattern = (c : ℕ) × (c ∈ pattern) × (getD totals (c - 1) 0 ≡ 0)
+
 -- what an accepted question leaves
-pub record Leaves (pattern : List ℕ) (m m′ : Memory) : Type 0 where
+pub record Leaves (totals pattern : List ℕ) (m m′ : Memory) : Type 0 where
+  pub lacking : Lacks totals pattern → m′ ≡ m
   pub once : MinRepeat pattern pattern → m′ ≡ m
-  pub repeating : ¬ MinRepeat pattern pattern → m′ ≡ cleared m
+  pub repeating : ¬ Lacks totals pattern → ¬ MinRepeat pattern pattern → m′ ≡ cleared m
 
 -- what an accepted route leaves: work memory zero, and walk memory as it was, but for the slots of its edges
 pub record LeavesWalk (m : Memory) (c : Outcome Routed) : Type 0 where
@@ -73,20 +78,20 @@ pub record Demand1 : Type 0 where
   pub removes : (h : Header) (from label to : ℕ) (m : Memory) → ChangeKeeps h m (removeCall h from label to m)
   -- "for a card, no record"
   pub reads : (bytes : List ℕ) (m : Memory) → ChangeKeeps noRecord m (readCall bytes m)
-  -- document 02, Two: a question by a pattern that repeats itself zeroes work memory "past check 4", so unless it is refused; "other questions leave
-  -- it as found". Nothing else is changed
+  -- document 02, Two: a question by a pattern that repeats itself zeroes work memory "past check 4", so unless it is refused or, Four, a label is
+  -- lacking; "other questions leave it as found". Nothing else is changed
   pub queries : (h : Header) (start destination : ℕ) (pattern : List ℕ) (m : Memory) →
       let c = queryCall h start destination pattern m in
-      Keeps m c (queryNumber (c .reply)) × (queryNumber (c .reply) ≡ 0 → Leaves pattern m (c .memory))
+      Keeps m c (queryNumber (c .reply)) × (queryNumber (c .reply) ≡ 0 → Leaves (h .totals) pattern m (c .memory))
   -- an accepted plain check zeroes work memory, and changes nothing else
-  pub searches : (h : Header) (start destination : ℕ) (pattern : List ℕ) (limit : ℕ) (m : Memory) →
-      let c = searchCall h start destination pattern limit m in
+  pub searches : (size : Size) (start destination : ℕ) (pattern : List ℕ) (limit : ℕ) (m : Memory) →
+      let c = searchCall size start destination pattern limit m in
       Keeps m c (searchNumber (c .reply)) × (searchNumber (c .reply) ≡ 0 → c .memory ≡ cleared m)
   -- document 02, Three: "the slots behind it are untouched. A no writes nothing"; 18 "leaves work memory zero, as 13 does"
-  pub routes : (h : Header) (start destination : ℕ) (pattern : List ℕ) (m : Memory) →
-      let c = routeCall h start destination pattern m in
+  pub routes : (size : Size) (start destination : ℕ) (pattern : List ℕ) (m : Memory) →
+      let c = routeCall size start destination pattern m in
       Keeps m c (routeNumber (c .reply)) × LeavesWalk m c
   -- "A written card touches only its own length of the output, and its length is returned."
-  pub writes : (h : Header) (m : Memory) →
-      let c = writeCall h m in
+  pub writes : (size : Size) (m : Memory) →
+      let c = writeCall size m in
       Keeps m c (writeNumber (c .reply)) × ((n : ℕ) → c .reply ≡ Length n → drop n (c .memory .output) ≡ drop n (m .output))

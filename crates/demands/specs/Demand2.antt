@@ -1,13 +1,13 @@
 -- Demand 2: replies are right on the record and index that the last accepted change left, for a pattern that repeats itself and for routes on its
 -- edges too, and cards restore what they were written from.
 use mathlib.Core.Path.{_≡_}
-use mathlib.Core.Logic.{_↔_}
+use mathlib.Core.Logic.{_↔_, _≢_}
 use mathlib.Core.List.{List, [], _++_}
 use Prim.Native.Nat.{ℕ, _+_, _*_, _≤_, _<_}
 use lib.ListN.{length, take, drop}
 use Rattle.model.specs.Limits.{mostVertices, mostEdges, mostLongest, leastWork}
 use Rattle.model.specs.Lists.{filled, Bytes}
-use Rattle.model.specs.Edges.{Graph, standing}
+use Rattle.model.specs.Edges.{Graph, standing, totalsOf}
 use Rattle.model.specs.Patterns.{Keyed, MinRepeat, Pattern}
 use Rattle.model.specs.Walks.{Runs}
 use Rattle.model.specs.Routes.{Route, Routed, Yes as RoutedYes, No as RoutedNo, Refused as RoutedRefused}
@@ -15,9 +15,10 @@ use Rattle.model.specs.Query.{Answered, Yes, No, Refused}
 use Rattle.model.specs.Computed.Entries.{determined}
 use Rattle.calls.specs.Call.{Header, graphOf, Memory, lent, lentOut, Outcome, Returned, Length}
 use Rattle.calls.specs.Route.{routeCall}
-use Rattle.calls.specs.Query.{queryCall}
+use Rattle.calls.specs.Query.{fullCall, queryCall}
 use Rattle.calls.specs.Change.{openCall, insertCall, removeCall}
 use Rattle.calls.specs.Card.{readCall, writeCall}
+use Rattle.demands.specs.Demand1.{Lacks}
 
 -- "A yes or no is judged by the pattern as keyed" (document 02, Two): yes, and some walk spells it one or more whole times, or no, and none does
 pub data Judged (g : Graph) (l : List ℕ) (s t : ℕ) : Answered → Type 0 where
@@ -33,6 +34,8 @@ pub data Lit (g : Graph) (l : List ℕ) (s t : ℕ) (walk : List ℕ) : Routed �
 
 -- (a) queries (questions) put with the record, edge memory and index memory that a change left; the edges that then stand are those of the graph
 pub record Right (h : Header) (edges index : List ℕ) (g : Graph) : Type 0 where
+  -- document 02, Four: the totals are those "of its standing legs"
+  pub totals : h .totals ≡ totalsOf (g .edges)
   -- a pattern that is its own minimum repeat is judged rightly whatever edge and work memory are lent
   pub once : (start destination : ℕ) (pattern : List ℕ) → start < g .vertices → destination < g .vertices → Pattern (g .longest) pattern
       → (other work : List ℕ) → Judged g pattern start destination (queryCall h start destination pattern (lent other index work) .reply)
@@ -40,10 +43,17 @@ pub record Right (h : Header) (edges index : List ℕ) (g : Graph) : Type 0 wher
   pub repeating : (start destination : ℕ) (pattern : List ℕ) → start < g .vertices → destination < g .vertices → Keyed (g .longest) pattern
       → ¬ MinRepeat pattern pattern → (work : List ℕ) → leastWork ≤ length work
       → Judged g pattern start destination (queryCall h start destination pattern (lent edges index work) .reply)
-  -- every other question is refused: by such a pattern with those edges and less work memory; and, whatever is lent, with an end that is no vertex
-  -- or by what is no pattern
+  -- a label that no edge has is a no, which is right, whatever memory is lent
+  pub lacking : (start destination : ℕ) (pattern : List ℕ) → start < g .vertices → destination < g .vertices → Keyed (g .longest) pattern
+      → Lacks (h .totals) pattern → (m : Memory) → (queryCall h start destination pattern m .reply ≡ No) × ¬ Runs g pattern start destination
+  -- "For records and memory as the last accepted change left them, this equals the full reply unless that would be refusal 4"
+  pub full : (start destination : ℕ) (pattern work : List ℕ) →
+      let reply = fullCall (h .size) start destination pattern (lent edges index work) .reply in
+      reply ≢ Refused 4 → queryCall h start destination pattern (lent edges index work) .reply ≡ reply
+  -- every other question is refused: by a pattern that repeats itself and lacks no label, with those edges and less work memory; and, whatever is
+  -- lent, with an end that is no vertex or by what is no pattern
   pub less : (start destination : ℕ) (pattern : List ℕ) → start < g .vertices → destination < g .vertices → Keyed (g .longest) pattern
-      → ¬ MinRepeat pattern pattern → (work : List ℕ) → length work < leastWork
+      → ¬ MinRepeat pattern pattern → ¬ Lacks (h .totals) pattern → (work : List ℕ) → length work < leastWork
       → queryCall h start destination pattern (lent edges index work) .reply ≡ Refused 4
   pub ends : (start destination : ℕ) (pattern : List ℕ) → ¬ ((start < g .vertices) × (destination < g .vertices))
       → (other work : List ℕ) → queryCall h start destination pattern (lent other index work) .reply ≡ Refused 10
@@ -53,23 +63,25 @@ pub record Right (h : Header) (edges index : List ℕ) (g : Graph) : Type 0 wher
   -- exactly if the question is a yes
   pub routes : (start destination : ℕ) (pattern : List ℕ) → start < g .vertices → destination < g .vertices → Keyed (g .longest) pattern
       → (walk work : List ℕ) → leastWork ≤ length work →
-      let c = routeCall h start destination pattern (lentOut edges work walk) in
+      let c = routeCall (h .size) start destination pattern (lentOut edges work walk) in
       Lit g pattern start destination walk (c .reply) (c .memory .output)
   pub given : (start destination : ℕ) (pattern : List ℕ) → start < g .vertices → destination < g .vertices → Keyed (g .longest) pattern
       → (walk work : List ℕ) → leastWork ≤ length work → mostLongest * mostVertices ≤ length walk
       → (queryCall h start destination pattern (lent edges index work) .reply ≡ Yes)
-      ↔ ((n : ℕ) × (routeCall h start destination pattern (lentOut edges work walk) .reply ≡ RoutedYes n))
+      ↔ ((n : ℕ) × (routeCall (h .size) start destination pattern (lentOut edges work walk) .reply ≡ RoutedYes n))
 
 -- put with the record that a change handed back and the memory that it left, to the edges that stand in the edge memory that it left
 abbrev pub RightAfter : Outcome Returned → Type 0
-RightAfter c = Right (c .reply .header) (c .memory .edges) (c .memory .index) (graphOf (c .reply .header) (standing (c .memory .edges)))
+RightAfter c = Right (c .reply .header) (c .memory .edges) (c .memory .index) (graphOf (c .reply .header .size) (standing (c .memory .edges)))
 
 -- (b) what reading gives of a card that was written
 pub record Restores (h : Header) (edges : List ℕ) (m : Memory) (c : Outcome Returned) : Type 0 where
   pub accepted : c .reply .answer ≡ 0
-  pub header : c .reply .header ≡ h
+  pub size : c .reply .header .size ≡ h .size
+  -- "a card read back restores the totals too": of a record as a change left it with those edges, and so of any that a change left
+  pub header : h .totals ≡ totalsOf (standing edges) → c .reply .header ≡ h
   pub edges-back : c .memory .edges ≡ filled (length (m .edges)) (standing edges)
-  pub index-back : c .memory .index ≡ filled (length (m .index)) (determined (graphOf h (standing edges)))
+  pub index-back : c .memory .index ≡ filled (length (m .index)) (determined (graphOf (h .size) (standing edges)))
 
 -- memory that a reading of so many edges and entries needs
 pub record Roomy (m : Memory) (edges entries : ℕ) : Type 0 where
@@ -85,11 +97,11 @@ pub record Demand2 : Type 0 where
   pub removes : (h : Header) (from label to : ℕ) (m : Memory) → removeCall h from label to m .reply .answer ≡ 0 → RightAfter (removeCall h from label to m)
   pub reads : (bytes : List ℕ) (m : Memory) → Bytes bytes → readCall bytes m .reply .answer ≡ 0 → RightAfter (readCall bytes m)
   -- a card that was written, read again
-  pub reading : (h : Header) (w : Memory) (n : ℕ) (m : Memory) → writeCall h w .reply ≡ Length n
-      → Roomy m (length (standing (w .edges))) (length (determined (graphOf h (standing (w .edges)))))
-      → Restores h (w .edges) m (readCall (take n (writeCall h w .memory .output)) m)
+  pub reading : (h : Header) (w : Memory) (n : ℕ) (m : Memory) → writeCall (h .size) w .reply ≡ Length n
+      → Roomy m (length (standing (w .edges))) (length (determined (graphOf (h .size) (standing (w .edges)))))
+      → Restores h (w .edges) m (readCall (take n (writeCall (h .size) w .memory .output)) m)
   -- (c) a card that was read, written again: its length, its bytes, and the rest of the output untouched
   pub writing : (bytes output : List ℕ) (m : Memory) → Bytes bytes → readCall bytes m .reply .answer ≡ 0 → length bytes ≤ length output →
       let c = readCall bytes m in
-      let w = writeCall (c .reply .header) (lentOut (c .memory .edges) [] output) in
+      let w = writeCall (c .reply .header .size) (lentOut (c .memory .edges) [] output) in
       (w .reply ≡ Length (length bytes)) × (w .memory .output ≡ bytes ++ drop (length bytes) output)

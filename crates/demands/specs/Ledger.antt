@@ -6,13 +6,14 @@ use Prim.Native.Nat.{ℕ, zero, suc, _+_, _-_, _*_}
 use lib.Dec.{eqb, ltb, leb}
 use lib.ListN.{length, getD}
 use Rattle.model.specs.Limits.{mostVertices, mostEdges, mostLabel, mostLongest, fromUnit, leastWork, headBytes, tripleBytes}
-use Rattle.model.specs.Lists.{keep, upTo, any?, mem?, Bytes}
+use Rattle.model.specs.Lists.{keep, from, upTo, any?, mem?, Bytes}
 use Rattle.model.specs.Edges.{edgeNumber}
+use Rattle.model.specs.Computed.Lists.{spread}
 use Rattle.model.specs.Computed.Entries.{determined}
 
 -- "It is fed what each call is given: the record of an opening, the leg of a lay or lift, the bytes of a card"
 pub data Given : Type 0 where
-  opening : (vertices longest : ℕ) → Given
+  opening : (vertices longest : ℕ) (totals : List ℕ) → Given
   insertion removal : (from label to : ℕ) → Given
   card : (bytes : List ℕ) → Bytes bytes → Given
 
@@ -32,6 +33,14 @@ pub record Book : Type 0 where
 -- "the standing legs, rising": of all numbers that an edge can have, those in the set
 unfoldable pub rising : List ℕ → List ℕ
 rising edges = keep (λ x. mem? x edges) (upTo (mostVertices * fromUnit))
+
+-- "eight totals, the legs of each colour" (document 02, Four), by the ledger's own count: of all numbers that an edge with that label can have, those
+-- in the set
+unfoldable pub labelled : ℕ → List ℕ
+labelled label = spread (λ a. map (λ b. edgeNumber a label b) (upTo mostVertices)) (upTo mostVertices)
+
+unfoldable pub tally : List ℕ → List ℕ
+tally edges = map (λ label. length (keep (λ x. mem? x edges) (labelled label))) (from 1 mostLabel)
 
 -- "the entries that they determine with the ledger's places and k"
 abbrev pub bookEntries : Book → List ℕ
@@ -136,8 +145,12 @@ module _ (bytes : List ℕ) where
 
 -- the record in a reply, or none
 pub data Shown : Type 0 where
-  shows : (vertices longest : ℕ) → Shown
+  shows : (vertices longest : ℕ) (totals : List ℕ) → Shown
   nothing : Shown
+
+-- "the record of the places and k then held", with the totals "of its standing legs" (document 02, Four)
+abbrev pub showing : Book → Shown
+showing b = shows (b .vertices) (b .longest) (tally (b .edges))
 
 -- "A call is refused with the first number that applies in its order above, and is accepted otherwise": 0. What an accepted call sets; and the
 -- record that is shown with a refusal
@@ -148,24 +161,24 @@ pub record Ruling : Type 0 where
 
 abbrev pub rulingOn : Book → Fed → Given → Ruling
 -- "An accepted opening sets its record's places and k, with no legs"; refused, "the opening's record as given"
-rulingOn b f (opening vertices longest) =
+rulingOn b f (opening vertices longest totals) =
     record {
       number = openingNumber vertices longest f;
       sets = record { vertices = vertices; longest = longest; edges = [] };
-      refused = shows vertices longest;
+      refused = shows vertices longest totals;
     }
 -- "An accepted lay adds its leg, an accepted lift takes its leg out; places and k stay"; refused, "the record last replied to an accepted call"
 rulingOn b f (insertion from label to) =
     record {
       number = insertionNumber b from label to f;
       sets = inserted b (edgeNumber from label to);
-      refused = shows (b .vertices) (b .longest);
+      refused = showing b;
     }
 rulingOn b f (removal from label to) =
     record {
       number = removalNumber b from label to f;
       sets = removed b (edgeNumber from label to);
-      refused = shows (b .vertices) (b .longest);
+      refused = showing b;
     }
 -- "An accepted card reading sets the card's places, k and legs"; refused, "for a card none"
 rulingOn b f (card bytes _) = record { number = cardNumber bytes f; sets = cardBook bytes; refused = nothing }
@@ -186,7 +199,7 @@ pub record Turn : Type 0 where
 
 -- "A refused call changes nothing. The reply is the record of the places and k then held; after a refusal, the number, with" the record shown
 abbrev pub turnWith : ℕ → Book → Book → Shown → Turn
-turnWith zero b sets refused = record { reply = record { number = 0; shown = shows (sets .vertices) (sets .longest) }; book = sets }
+turnWith zero b sets refused = record { reply = record { number = 0; shown = showing sets }; book = sets }
 turnWith (suc n) b sets refused = record { reply = record { number = suc n; shown = refused }; book = b }
 
 unfoldable pub turn : Book → Fed → Turn

@@ -1,19 +1,19 @@
 -- Meaning: document 01's own words and the definitions that compute. The demands and contracts speak of the latter; here each is tied to the
 -- sentence that it stands for, for every graph of 1 to 256 vertices whose longest pattern is 1 to 4.
 use mathlib.Core.Path.{_≡_}
-use mathlib.Core.Logic.{_↔_}
+use mathlib.Core.Logic.{_↔_, _≢_}
 use mathlib.Core.Bool.{true}
 use mathlib.Core.List.{List}
-use Prim.Native.Nat.{ℕ, suc, _≤_, _<_}
-use lib.ListN.{length}
-use Rattle.model.specs.Limits.{mostLongest, mostEdges, enoughLevels, hubUnit}
+use Prim.Native.Nat.{ℕ, suc, _-_, _≤_, _<_}
+use lib.ListN.{length, getD}
+use Rattle.model.specs.Limits.{mostEdges, mostLabel, mostLongest, enoughLevels, hubUnit}
 use Rattle.model.specs.Lists.{_∈_, Sorted, Rising, Padded}
-use Rattle.model.specs.Edges.{Graph, Bounds, OfEdge, standing}
+use Rattle.model.specs.Edges.{Graph, Bounds, labelOf, OfEdge, standing, totalsOf}
 use Rattle.model.specs.Patterns.{times, Keyed, MinRepeat}
 use Rattle.model.specs.Walks.{Spells, Runs}
 use Rattle.model.specs.Order.{weight, Before, Names}
 use Rattle.model.specs.Entries.{IsEntry}
-use Rattle.model.specs.Query.{Coded, OfEntry, Answers}
+use Rattle.model.specs.Query.{Coded, OfEntry, Answers, No}
 use Rattle.model.specs.Routes.{Yes as RoutedYes, Refused}
 use Rattle.model.specs.States.{Yes, state, Reply}
 use Rattle.model.specs.Computed.Edges.{edgeMemory?}
@@ -23,11 +23,11 @@ use Rattle.model.specs.Computed.Levels.{level}
 use Rattle.model.specs.Computed.Entries.{determined}
 use Rattle.model.specs.Computed.Query.{code?, indexMemory?, answers?}
 use Rattle.model.specs.Levels.{Reached, Told, Decides}
-use Rattle.calls.specs.Call.{Header, graphOf, Memory}
+use Rattle.calls.specs.Call.{Size, Header, graphOf, Memory}
 use Rattle.calls.specs.Search.{searchCall}
 use Rattle.calls.specs.Route.{routeCall}
 use Rattle.calls.specs.Query.{queryCall}
-use Rattle.demands.specs.Demand1.{searchNumber, queryNumber}
+use Rattle.demands.specs.Demand1.{Lacks, searchNumber, queryNumber}
 use Rattle.demands.specs.Demand2.{Judged, Lit}
 
 -- what an accepted plain check (level search) replies
@@ -70,19 +70,27 @@ pub record Meaning : Type 0 where
   pub level-zero : (g : Graph) (l : List ℕ) (s z : ℕ) → (z ∈ level g l s 0) ↔ (z ≡ state s 0)
   pub level-next : (g : Graph) (l : List ℕ) (s i z : ℕ) → (z ∈ level g l s (suc i)) ↔ Reached g l s i z
   -- a plain check that is not refused, by the pattern as keyed
-  pub searches : (h : Header) (start destination : ℕ) (pattern : List ℕ) (limit : ℕ) (m : Memory) →
-      let r = searchCall h start destination pattern limit m .reply in
-      searchNumber r ≡ 0 → Replies (graphOf h (standing (m .edges))) pattern start destination limit r
-  -- document 02, Two: a question by a pattern that repeats itself, on whatever record and memory, that is not refused
-  pub queries : (h : Header) (start destination : ℕ) (pattern : List ℕ) (m : Memory) → ¬ MinRepeat pattern pattern →
+  pub searches : (size : Size) (start destination : ℕ) (pattern : List ℕ) (limit : ℕ) (m : Memory) →
+      let r = searchCall size start destination pattern limit m .reply in
+      searchNumber r ≡ 0 → Replies (graphOf size (standing (m .edges))) pattern start destination limit r
+  -- document 02, Two: a question by a pattern that repeats itself and lacks no label, on whatever record and memory, that is not refused
+  pub queries : (h : Header) (start destination : ℕ) (pattern : List ℕ) (m : Memory) → ¬ MinRepeat pattern pattern → ¬ Lacks (h .totals) pattern →
       let r = queryCall h start destination pattern m .reply in
-      queryNumber r ≡ 0 → Judged (graphOf h (standing (m .edges))) pattern start destination r
+      queryNumber r ≡ 0 → Judged (graphOf (h .size) (standing (m .edges))) pattern start destination r
+  -- document 02, Four: a total is 0 exactly if no edge has the label
+  pub total-zero : (edges : List ℕ) (c : ℕ) → 1 ≤ c → c ≤ mostLabel
+      → (getD (totalsOf edges) (c - 1) 0 ≡ 0) ↔ ((x : ℕ) → x ∈ edges → labelOf x ≢ c)
+  -- "A question with a colour whose total is 0 is a no without reading the index, and checks 12, 3 and 4 are skipped for it": once 1 2 10 11 pass, on
+  -- whatever record and memory, which stays as found
+  pub lacking : (h : Header) (start destination : ℕ) (pattern : List ℕ) (m : Memory) → Bounds (h .size .vertices) (h .size .longest)
+      → start < h .size .vertices → destination < h .size .vertices → Keyed (h .size .longest) pattern → Lacks (h .totals) pattern
+      → queryCall h start destination pattern m ≡ record { reply = No; memory = m }
   -- document 02, Three: "The checks are the plain check's", and past them the route is given, on whatever record and memory
-  pub routes : (h : Header) (start destination : ℕ) (pattern : List ℕ) (limit : ℕ) (m : Memory) →
-      let n = searchNumber (searchCall h start destination pattern limit m .reply) in
-      let c = routeCall h start destination pattern m in
+  pub routes : (size : Size) (start destination : ℕ) (pattern : List ℕ) (limit : ℕ) (m : Memory) →
+      let n = searchNumber (searchCall size start destination pattern limit m .reply) in
+      let c = routeCall size start destination pattern m in
       (1 ≤ n → c .reply ≡ Refused n)
-      × (n ≡ 0 → Lit (graphOf h (standing (m .edges))) pattern start destination (m .output) (c .reply) (c .memory .output))
+      × (n ≡ 0 → Lit (graphOf size (standing (m .edges))) pattern start destination (m .output) (c .reply) (c .memory .output))
   -- it has as many edges as the plain check's yes has levels
-  pub lengths : (h : Header) (start destination : ℕ) (pattern : List ℕ) (limit : ℕ) (m : Memory) (n : ℕ) → enoughLevels ≤ limit
-      → routeCall h start destination pattern m .reply ≡ RoutedYes n → searchCall h start destination pattern limit m .reply ≡ Yes n
+  pub lengths : (size : Size) (start destination : ℕ) (pattern : List ℕ) (limit : ℕ) (m : Memory) (n : ℕ) → enoughLevels ≤ limit
+      → routeCall size start destination pattern m .reply ≡ RoutedYes n → searchCall size start destination pattern limit m .reply ≡ Yes n

@@ -13,14 +13,17 @@ use Rattle.calls.specs.Query.{queryCall}
 use Rattle.demands.specs.Ledger.{Book, rising, Given, opening, insertion, removal, card, Shown, shows, nothing, LedgerReply}
 
 -- a reply as the ledger would tell it: the record shown is the one handed back, except that a refused card shows none
+abbrev pub shownHeader : Header → Shown
+shownHeader h = shows (h .size .vertices) (h .size .longest) (h .totals)
+
 abbrev pub shownCard : ℕ → Header → Shown
-shownCard zero h = shows (h .vertices) (h .longest)
+shownCard zero h = shownHeader h
 shownCard (suc n) h = nothing
 
 abbrev pub shownTo : Given → Returned → Shown
-shownTo (opening vertices longest) r = shows (r .header .vertices) (r .header .longest)
-shownTo (insertion from label to) r = shows (r .header .vertices) (r .header .longest)
-shownTo (removal from label to) r = shows (r .header .vertices) (r .header .longest)
+shownTo (opening vertices longest totals) r = shownHeader (r .header)
+shownTo (insertion from label to) r = shownHeader (r .header)
+shownTo (removal from label to) r = shownHeader (r .header)
 shownTo (card bytes _) r = shownCard (r .answer) (r .header)
 
 abbrev pub replyTo : Given → Returned → LedgerReply
@@ -32,7 +35,7 @@ blank = record { vertices = 0; longest = 0; edges = [] }
 
 -- an opening or a card reading
 pub data Begins : Given → Type 0 where
-  by-opening : {vertices longest : ℕ} → Begins (opening vertices longest)
+  by-opening : {vertices longest : ℕ} {totals : List ℕ} → Begins (opening vertices longest totals)
   by-card : {bytes : List ℕ} {small : Bytes bytes} → Begins (card bytes small)
 
 -- the standing edges as a graph

@@ -7,14 +7,16 @@ use model::MOST_VERTICES;
 ghost use mathlib.Core.Path.{_≡_};
 ghost use Prim.Native.Nat.{_/_, _≤_, _<_};
 ghost use lib.ListN.{length, take};
-ghost use Rattle.model.specs.Limits.{mostVertices, fromUnit, labelUnit};
+ghost use Rattle.model.specs.Limits.{mostVertices, mostEdges, fromUnit, labelUnit};
 ghost use Rattle.model.specs.Lists.{Rising, filled};
-ghost use Rattle.model.specs.Edges.{edgeNumber, standing};
+ghost use Rattle.model.specs.Edges.{edgeNumber, standing, totalsOf};
 ghost use Rattle.model.specs.Computed.Edges.{edge?, insertEdge, removeEdge};
 ghost use Rattle.edges.specs.Memory.{scanOf, findOf, Insertable, Removable};
 ghost use Rattle.edges.specs.Slots.{Under, Skipped, Starts};
 
 const MOST_LABEL: u32 = model::MOST_LABEL as u32;
+
+const LABEL_FIELD: usize = LABELS as usize;
 
 // What check 3 finds: how many edges stand, or that this is no edge memory of the graph.
 pub enum Scanned {
@@ -130,6 +132,35 @@ pub fn first_slots(vertices: u32, edges: &[u32]) -> [usize; MOST_VERTICES]
         v += 1;
     }
     slots
+}
+
+// How many of the standing edges have each label 1 to 8 (document 02, Four). Even and odd slots are counted apart, as equal labels in a row would
+// else wait for each other.
+pub fn totals(edges: &[u32]) -> [u32; model::MOST_LABEL]
+    requires { ⌜ length (now edges) ≤ mostEdges ⌝ }
+    ensures { λ r. ⌜ r ≡ totalsOf (standing (now (edges .entry))) ⌝ }
+{
+    let mut counts = [0u32; 2 * LABEL_FIELD];
+    let mut i = 0;
+    while i < edges.len() {
+        let x = edges[i];
+        if x == 0 {
+            break;
+        }
+        let at = i % 2 * LABEL_FIELD + (x / LABEL_UNIT % LABELS) as usize;
+        counts[at] += 1;
+        i += 1;
+    }
+    [
+        counts[1] + counts[17],
+        counts[2] + counts[18],
+        counts[3] + counts[19],
+        counts[4] + counts[20],
+        counts[5] + counts[21],
+        counts[6] + counts[22],
+        counts[7] + counts[23],
+        counts[8] + counts[24],
+    ]
 }
 
 pub fn insert(edges: &mut [u32], n: usize, at: usize, edge: u32)

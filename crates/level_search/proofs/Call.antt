@@ -16,7 +16,7 @@ use Rattle.model.specs.declared.SearchReply.{SearchReply}
 use Rattle.model.specs.declared.Refusal.{Refusal}
 use Rattle.model.proofs.Search.{reply-as, yes-runs}
 use Rattle.edges.proofs.Memory.{Scans}
-use Rattle.calls.specs.Call.{Header, Memory, Meets}
+use Rattle.calls.specs.Call.{Size, Memory, Meets}
 use Rattle.calls.specs.Search.{searchRefusal, searchCall}
 use Rattle.calls.proofs.Calls.{refused-meets, accepted-is}
 use Rattle.checks.proofs.LayoutChecks.{layout-header, layout-memory}
@@ -34,7 +34,7 @@ searchable-over b e k s t = rw (e .front) (record {
   destination = t;
 })
 
-module _ {h : Header} {s t : ℕ} {pattern : List ℕ} {m : Memory} {n : ℕ} (p : SearchPasses h s t pattern m n) where
+module _ {h : Size} {s t : ℕ} {pattern : List ℕ} {m : Memory} {n : ℕ} (p : SearchPasses h s t pattern m n) where
   edge-memory : Scans (h .vertices) (m .edges) n
   edge-memory = layout-memory (p .layout)
 
@@ -56,7 +56,7 @@ module _ {h : Header} {s t : ℕ} {pattern : List ℕ} {m : Memory} {n : ℕ} (p
   })
 
 -- a refusal leaves everything as it was
-pub search-refused : (h : Header) (s t : ℕ) (pattern : List ℕ) (limit : ℕ) (m : Memory) (r : Refusal) → searchRefusal h s t pattern m ≡ numberOf r
+pub search-refused : (h : Size) (s t : ℕ) (pattern : List ℕ) (limit : ℕ) (m : Memory) (r : Refusal) → searchRefusal h s t pattern m ≡ numberOf r
     → Meets (searchCall h s t pattern limit m) (Refused (numberOf r)) m
 unfolding searchCall
 search-refused h s t pattern limit m r e = refused-meets Refused m _ (searchRefusal h s t pattern m) r e

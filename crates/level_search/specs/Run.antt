@@ -12,7 +12,7 @@ use Rattle.model.specs.Replies.{numberOf, replyOf}
 use Rattle.model.specs.Computed.Edges.{bare, edge?}
 use Rattle.model.specs.Computed.Levels.{levelReply, runs?}
 use Rattle.model.specs.declared.SearchReply.{SearchReply}
-use Rattle.calls.specs.Call.{Header, Memory}
+use Rattle.calls.specs.Call.{Size, Memory}
 use Rattle.calls.specs.Search.{searchRefusal}
 use Rattle.checks.specs.LayoutChecks.{LayoutPasses}
 use Rattle.checks.specs.declared.Standing.{Standing}
@@ -44,7 +44,7 @@ pub record Tells (vertices : ℕ) (edges l : List ℕ) (s t : ℕ) (work : List 
 -- ---- what the call's checks hand on
 
 -- all have passed, and n edges stand
-pub record SearchPasses (h : Header) (start destination : ℕ) (pattern : List ℕ) (m : Memory) (n : ℕ) : Type 0 where
+pub record SearchPasses (h : Size) (start destination : ℕ) (pattern : List ℕ) (m : Memory) (n : ℕ) : Type 0 where
   pub is : searchRefusal h start destination pattern m ≡ 0
   pub layout : LayoutPasses (h .vertices) (h .longest) (m .edges) n
   pub room : leastWork ≤ length (m .work)
@@ -52,6 +52,6 @@ pub record SearchPasses (h : Header) (start destination : ℕ) (pattern : List �
   pub destination-vertex : destination < h .vertices
   pub keyed : Keyed (h .longest) pattern
 
-abbrev pub SearchChecks : Header → (start destination : ℕ) → List ℕ → Memory → Standing → Type 0
+abbrev pub SearchChecks : Size → (start destination : ℕ) → List ℕ → Memory → Standing → Type 0
 SearchChecks h start destination pattern m (Refused r) = searchRefusal h start destination pattern m ≡ numberOf r
 SearchChecks h start destination pattern m (Edges n) = SearchPasses h start destination pattern m n

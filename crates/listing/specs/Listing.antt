@@ -21,7 +21,7 @@ listedMemory = lent (replicate mostEdges 0) (replicate listedSlots 0) (replicate
 abbrev pub text : Outcome Returned → List ℕ
 text c =
     cond (eqb (c .reply .answer) 0)
-    (listing (c .reply .header .vertices) (c .reply .header .longest) (length (standing (c .memory .edges))) (standing (c .memory .index)))
+    (listing (c .reply .header .size .vertices) (c .reply .header .size .longest) (length (standing (c .memory .edges))) (standing (c .memory .index)))
     (refusedLine (c .reply .answer))
 
 unfoldable pub printed : List ℕ → List ℕ

@@ -29,3 +29,4 @@ pub mod WalksBack
 pub mod Queue
 pub mod Routes
 pub mod RouteSearch
+pub mod Totals

@@ -1,5 +1,5 @@
 -- Lists that are computed, what stands in them, and in which order.
-use mathlib.Core.Path.{_≡_, refl, sym, ap, _∙_, subst}
+use mathlib.Core.Path.{_≡_, refl, sym, ap, ap₂, _∙_, subst}
 use mathlib.Core.Logic.{_⊎_, inl, inr, ⊎-elim, _≢_}
 use mathlib.Core.Bool.{Bool, true, false, not}
 use mathlib.Core.List.{List, [], _∷_, _++_, append-nil, append-assoc, List·Memᴰ, List·Memᴰ·head, List·Memᴰ·tail, List·Memᴰ·cases-cons, List·Memᴰ·not-nil, List·Memᴰ·append-cases, Memᴰ·append-left, Memᴰ·append-right, Memᴰ·of-map, map}
@@ -144,6 +144,11 @@ module _ {A B : Type 0} {R : A → A → Type 0} {S : B → B → Type 0} where
   sorted-spread f (next {x = x} {l = l} g s) h k = sorted-append (h x (List·Memᴰ·head refl))
       (sorted-spread f s (λ z m. h z (List·Memᴰ·tail m)) (λ u v b c r i j. k u v b c r (List·Memᴰ·tail i) (List·Memᴰ·tail j)))
       (λ b c i j. let (z, m, q) = spread-out f l j in k x z b c (g z m) (List·Memᴰ·head refl) (List·Memᴰ·tail m) i q)
+
+-- functions that agree on a list's elements
+pub map-as : {A B : Type 0} {f g : A → B} (l : List A) → ((x : A) → List·Memᴰ x l → f x ≡ g x) → map f l ≡ map g l
+map-as [] h = refl
+map-as (x ∷ l) h = ap₂ _∷_ (h x (List·Memᴰ·head refl)) (map-as l (λ z m. h z (List·Memᴰ·tail m)))
 
 -- ---- lists by their indices
 

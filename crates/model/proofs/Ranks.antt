@@ -9,7 +9,7 @@ use native.Mathlib.Nat.{le-of-suc-le-suc, not-suc-le-zero}
 use native.Mathlib.Decide.{ℕ-discrete}
 use native.Mathlib.Omega.{arith}
 use lib.Dec.{T, eqb}
-use lib.ListN.{length, getD, take}
+use lib.ListN.{length, getD, set, take}
 use lib.Seq.{getD-take, length-take-le, ext-getD}
 use Rattle.model.specs.Limits.{fromUnit, labelUnit}
 use Rattle.model.specs.Lists.{_∈_, put, keep, upTo, Sorted, none, next}
@@ -17,7 +17,7 @@ use Rattle.model.specs.Edges.{edgeNumber, fromOf, toOf}
 use Rattle.model.specs.Order.{outDegree, inDegree, rank, Names}
 use Rattle.model.specs.Computed.Edges.{bare}
 use Rattle.model.proofs.Tests.{Tests, test-true, test-false, test-not, test-eq}
-use Rattle.model.proofs.Lists.{keep-in, keep-out, up-to, below, length-from, rising-from, sorted-keep, sorted-imp, getD-in}
+use Rattle.model.proofs.Lists.{keep-in, keep-out, up-to, below, length-from, rising-from, sorted-keep, sorted-imp, getD-in, getD-set}
 use Rattle.model.proofs.Order.{rank-here, rank-there, rank-same}
 
 -- ---- how many elements pass a test
@@ -39,7 +39,7 @@ module _ (f : ℕ → Bool) where
       go true = omega arith
       go false = omega arith
 
-  keep-none : (l : List ℕ) → ((x : ℕ) → x ∈ l → ¬ T (f x)) → length (keep f l) ≡ 0
+  pub keep-none : (l : List ℕ) → ((x : ℕ) → x ∈ l → ¬ T (f x)) → length (keep f l) ≡ 0
   keep-none l h = none-in (keep f l) (λ x m. let (k, t) = keep-out f l m in h x k t)
 
   keep-yes : (x : ℕ) (l : List ℕ) → f x ≡ true → keep f (x ∷ l) ≡ x ∷ keep f l
@@ -54,6 +54,11 @@ module _ (f : ℕ → Bool) where
   unfolding keep
   keep-all [] h = refl
   keep-all (x ∷ l) h = keep-yes x l (h x (List·Memᴰ·head refl)) ∙ ap (λ m. x ∷ m) (keep-all l (λ z m. h z (List·Memᴰ·tail m)))
+
+-- what stands at k once the number at i is raised by 1
+pub raised : (l : List ℕ) (i k : ℕ) {b : Bool} → i < length l → Tests b (i ≡ k) → getD (set l i (getD l i 0 + 1)) k 0 ≡ getD l k 0 + one b
+raised l i k h t =
+    getD-set l i (getD l i 0 + 1) k _ h (λ e. rw (e, test-true t (sym e))) (λ n. rw (test-false t (λ e. n (sym e))) (omega arith))
 
 -- an edge from v to itself counts on both sides
 pub self-edge : (n v c : ℕ) (edges : List ℕ) → v < labelUnit → c < fromUnit / labelUnit →

@@ -1,9 +1,11 @@
 -- What the station holds (document 01): the layout as a graph, the numbers of its edges, and edge memory.
 use mathlib.Core.Path.{_≡_}
 use mathlib.Core.Bool.{cond}
-use mathlib.Core.List.{List, [], _∷_}
+use mathlib.Core.List.{List, [], _∷_, map}
 use Prim.Native.Nat.{ℕ, _+_, _*_, _/_, _%_, _≤_, _<_}
 use lib.Dec.{eqb}
+use lib.ListN.{length}
+use Rattle.model.specs.Lists.{keep, from}
 use Rattle.model.specs.Limits.{mostVertices, mostLabel, mostLongest, fromUnit, labelUnit}
 
 -- A layout: its places (vertices, numbered from 0), its longest pattern k, and its standing legs (edges), as the numbers below.
@@ -45,3 +47,10 @@ pub record OfEdge (vertices x : ℕ) : Type 0 where
 unfoldable pub standing : List ℕ → List ℕ
 standing [] = []
 standing (x ∷ xs) = let more = x ∷ standing xs in cond (eqb x 0) [] more
+
+-- how many edges have a label, and that of labels 1 to 8 (document 02, Four): "eight totals, the legs of each colour"
+unfoldable pub totalOf : List ℕ → ℕ → ℕ
+totalOf edges label = length (keep (λ x. eqb (labelOf x) label) edges)
+
+unfoldable pub totalsOf : List ℕ → List ℕ
+totalsOf edges = map (totalOf edges) (from 1 mostLabel)

@@ -19,7 +19,7 @@ use Rattle.edges.specs.declared.Scanned.the-variants.{Edges}
 use Rattle.edges.specs.declared.Found.the-variants.{At, Before}
 use Rattle.edges.proofs.Memory.{Scans, scans, Stands, stands, Lacks, lacks}
 use Rattle.calls.specs.Checks.{Check}
-use Rattle.calls.specs.Call.{Header, Memory}
+use Rattle.calls.specs.Call.{Size, Memory}
 use Rattle.calls.specs.Change.{changeChecks, changeRefusal, insertRefusal, removeRefusal}
 use Rattle.calls.proofs.Checks.{none, pass, stop, first-is, Passed, also, passes}
 use Rattle.calls.proofs.Change.{stop-first, pass-first, ChangeGood, change-good}
@@ -31,7 +31,7 @@ unfolding scanOf
 scanned vertices xs e q = rw (e, q)
 
 -- a refusal of the first checks is the call's
-module _ (h : Header) (from label to : ℕ) (m : Memory) where
+module _ (h : Size) (from label to : ℕ) (m : Memory) where
   pub insert-stops : (r : Refusal) → changeRefusal h from label to m ≡ numberOf r → insertRefusal h from label to m ≡ numberOf r
   unfolding changeRefusal insertRefusal
   insert-stops r e = stop-first (changeChecks h from label to m) _ e (number-some r)
@@ -40,7 +40,7 @@ module _ (h : Header) (from label to : ℕ) (m : Memory) where
   unfolding changeRefusal removeRefusal
   remove-stops r e = stop-first (changeChecks h from label to m) _ e (number-some r)
 
-module _ {h : Header} {from label to : ℕ} {m : Memory} where
+module _ {h : Size} {from label to : ℕ} {m : Memory} where
   module _ {n : ℕ} (p : Passes h from label to m n) where
     pub good : ChangeGood h from label to m
     good = change-good h from label to m (p .is)
@@ -118,7 +118,7 @@ module _ {h : Header} {from label to : ℕ} {m : Memory} where
 first-of : {n : ℕ} {b : Bool} {l : List Check} → Passed ((n, b) ∷ l) → b ≡ true
 first-of (also e p) = e
 
-module _ {h : Header} {from label to : ℕ} {m : Memory} {n at : ℕ} where
+module _ {h : Size} {from label to : ℕ} {m : Memory} {n at : ℕ} where
   pub places-absent : Places h from label to m n at → ¬ (edgeNumber from label to ∈ standing (m .edges))
   unfolding changeRefusal insertRefusal
   places-absent p =

@@ -18,17 +18,16 @@ use Rattle.model.specs.Computed.Levels.{runs?}
 use Rattle.model.specs.Computed.Query.{entry?, indexMemory?, answers?}
 use Rattle.model.specs.declared.Refusal.{Refusal}
 use Rattle.model.specs.declared.Refusal.the-variants.{IndexMemory}
-use Rattle.model.proofs.Replies.{number-some}
 use Rattle.model.proofs.Search.{runs-as}
 use Rattle.model.proofs.Zeros.{Ordered, filled-within, filled-front}
 use Rattle.model.proofs.IndexMemory.{index-memory, answers-alone}
 use Rattle.calls.specs.Checks.{Check, firstRefusal}
-use Rattle.calls.specs.Call.{Header, graphOf, Memory, lent, Meets}
-use Rattle.calls.specs.Query.{saying, queryRefusal, byIndex, bySearch, queryCall}
-use Rattle.calls.proofs.Checks.{First, none, pass, stop, first-is, passes, done, also}
+use Rattle.calls.specs.Call.{Size, graphOf, Memory, lent, Meets}
+use Rattle.calls.specs.Query.{saying, askChecks, askRefusal, fullRefusal, byIndex, bySearch, fullCall}
+use Rattle.calls.proofs.Checks.{First, none, pass, stop, first-is}
 use Rattle.calls.proofs.Calls.{refused-meets, accepted-is}
-use Rattle.calls.proofs.Change.{stop-first, pass-first}
-use Rattle.calls.proofs.Query.{Allowed, allowed, within}
+use Rattle.calls.proofs.Change.{pass-first}
+use Rattle.calls.proofs.Query.{Allowed, ask-leaves, within}
 use Rattle.scan.specs.Memory.{extentOf}
 use Rattle.scan.specs.declared.Extent.the-variants.{Entries}
 use Rattle.scan.proofs.Scanning.{scans}
@@ -36,9 +35,9 @@ use Rattle.answer.specs.Saying.{Answerable, Says}
 use Rattle.edges.proofs.Memory.{Scans}
 use Rattle.level_search.specs.Run.{Searchable, Tells}
 use Rattle.level_search.proofs.Call.{searchable-over}
-use Rattle.query.specs.Call.{earlierChecks, earlierRefusal, askedCall, laterChecks, searchedCall}
+use Rattle.query.specs.Call.{askedCall, laterChecks, searchedCall}
 
-module _ (h : Header) (start destination : ℕ) (pattern : List ℕ) (m : Memory) where
+module _ (h : Size) (start destination : ℕ) (pattern : List ℕ) (m : Memory) where
   abbrev last : List Check
   last =
       (12, indexMemory? (h .vertices) (h .longest) (m .index))
@@ -46,36 +45,25 @@ module _ (h : Header) (start destination : ℕ) (pattern : List ℕ) (m : Memory
       ∷ (4, once? pattern || leb leastWork (length (m .work)))
       ∷ []
 
-  -- one of the earlier checks refuses
-  pub query-refused : (r : Refusal) → earlierRefusal h start destination pattern ≡ numberOf r → Meets (queryCall h start destination pattern m) (Refused (numberOf r)) m
-  unfolding queryCall earlierRefusal queryRefusal
-  query-refused r e = refused-meets Refused m _ (queryRefusal h start destination pattern m) r (stop-first (earlierChecks h start destination pattern) last e (number-some r))
+  -- the checks before all memory have passed: what the full question comes to, by how often the pattern was written
+  module _ (passed : askRefusal h start destination pattern ≡ 0) where
+    refusal-is : fullRefusal h start destination pattern m ≡ firstRefusal last
+    unfolding askRefusal fullRefusal
+    refusal-is = pass-first (askChecks h start destination pattern) last tt passed
 
-  -- they have passed: what the call comes to, by how often the pattern was written
-  module _ (passed : earlierRefusal h start destination pattern ≡ 0) where
-    refusal-is : queryRefusal h start destination pattern m ≡ firstRefusal last
-    unfolding earlierRefusal queryRefusal
-    refusal-is = pass-first (earlierChecks h start destination pattern) last tt passed
-
-    pub is-asked : once? pattern ≡ true → queryCall h start destination pattern m ≡ askedCall h start destination pattern m
-    unfolding queryCall askedCall firstRefusal
+    pub is-asked : once? pattern ≡ true → fullCall h start destination pattern m ≡ askedCall h start destination pattern m
+    unfolding fullCall askedCall firstRefusal
     is-asked e = rw (refusal-is, e) refl
 
-    pub is-searched : once? pattern ≡ false → queryCall h start destination pattern m ≡ searchedCall h start destination pattern m
-    unfolding queryCall searchedCall firstRefusal
+    pub is-searched : once? pattern ≡ false → fullCall h start destination pattern m ≡ searchedCall h start destination pattern m
+    unfolding fullCall searchedCall firstRefusal
     is-searched e = rw (refusal-is, e) refl
-
-pub earlier-leaves : (h : Header) (start destination : ℕ) (pattern : List ℕ) → earlierRefusal h start destination pattern ≡ 0 → Allowed h start destination pattern
-unfolding earlierRefusal
-earlier-leaves h start destination pattern e = elim (passes (earlierChecks h start destination pattern) tt e) [
-  | also v (also k (also ends (also keyed done))) ↦ allowed h start destination pattern v k ends keyed
-]
 
 -- ---- a pattern that is written once
 
-module _ (h : Header) (s t : ℕ) (pattern index : List ℕ) (passed : earlierRefusal h s t pattern ≡ 0) where
+module _ (h : Size) (s t : ℕ) (pattern index : List ℕ) (passed : askRefusal h s t pattern ≡ 0) where
   given : Allowed h s t pattern
-  given = earlier-leaves h s t pattern passed
+  given = ask-leaves h s t pattern passed
 
   keyed : Keyed mostLongest pattern
   keyed = within (given .bounds) (given .keyed)
@@ -125,13 +113,13 @@ module _ (h : Header) (s t : ℕ) (pattern index : List ℕ) (passed : earlierRe
 -- ---- a pattern that repeats itself
 
 -- over the edges that stand, n of them
-pub searchable : (h : Header) (s t : ℕ) (pattern : List ℕ) {n : ℕ} {edges : List ℕ} → earlierRefusal h s t pattern ≡ 0 → Scans (h .vertices) edges n
+pub searchable : (h : Size) (s t : ℕ) (pattern : List ℕ) {n : ℕ} {edges : List ℕ} → askRefusal h s t pattern ≡ 0 → Scans (h .vertices) edges n
     → Searchable (h .vertices) (take n edges) pattern s t
 searchable h s t pattern passed e =
-    let a = earlier-leaves h s t pattern passed in
+    let a = ask-leaves h s t pattern passed in
     searchable-over (a .bounds) e (a .keyed) (a .start-vertex) (a .destination-vertex)
 
-module _ (h : Header) (s t : ℕ) (pattern : List ℕ) (edges index work : List ℕ) where
+module _ (h : Size) (s t : ℕ) (pattern : List ℕ) (edges index work : List ℕ) where
   abbrev m : Memory
   m = lent edges index work
 

@@ -1,21 +1,25 @@
-// The query's call: its checks, then the question put to the entries that stand, or for a pattern that repeats itself a search.
+// The query's call: its checks and the rule of totals, then the question put to the entries that stand, or for a pattern that repeats itself a
+// search.
 use edges::Scanned;
 use model::Answer;
 use model::LEAST_WORK;
+use model::MOST_LABEL;
 use model::QueryReply;
 use model::Refusal;
 use scan::Extent;
 ghost use mathlib.Core.Path.{_≡_};
 ghost use mathlib.Core.List.{List};
 ghost use Prim.Native.Nat.{ℕ};
+ghost use Rattle.model.specs.Limits.{mostLongest};
+ghost use Rattle.model.specs.Patterns.{Keyed};
 ghost use Rattle.model.specs.Replies.{answerOf, answeredOf};
 ghost use Rattle.calls.specs.Call.{lent, Meets};
-ghost use Rattle.calls.specs.Query.{saying, queryCall};
-ghost use Rattle.query.specs.Call.{earlierRefusal, askedCall, searchedCall};
+ghost use Rattle.calls.specs.Query.{saying, askRefusal, lacking?, queryCall};
+ghost use Rattle.query.specs.Call.{askedCall, searchedCall};
 
-// The checks before that of index memory, in their order: 1, 2, 10 and 11.
+// The checks that come before all memory, in their order: 1, 2, 10 and 11.
 fn check(vertices: u32, longest: u32, start: u32, destination: u32, pattern: &[u8]) -> Answer
-    ensures { λ r. ⌜ answerOf r ≡ earlierRefusal (record { vertices = vertices; longest = longest }) start destination (now (pattern .entry)) ⌝ }
+    ensures { λ r. ⌜ answerOf r ≡ askRefusal (record { vertices = vertices; longest = longest }) start destination (now (pattern .entry)) ⌝ }
 {
     let header = checks::check_header(vertices, longest);
     if let Answer::Refused(refusal) = header {
@@ -28,6 +32,21 @@ fn check(vertices: u32, longest: u32, start: u32, destination: u32, pattern: &[u
         return Answer::Refused(Refusal::QueryPattern);
     }
     Answer::Refused(Refusal::QueryEnd)
+}
+
+// Whether a label of the pattern has total 0 in the record (document 02, Four).
+fn is_lacking(totals: [u32; MOST_LABEL], pattern: &[u8]) -> bool
+    requires { ⌜ Keyed mostLongest (now pattern) ⌝ }
+    ensures { λ r. ⌜ r ≡ lacking? totals (now (pattern .entry)) ⌝ }
+{
+    let mut i = 0;
+    while i < pattern.len() {
+        if totals[(pattern[i] - 1) as usize] == 0 {
+            return true;
+        }
+        i += 1;
+    }
+    false
 }
 
 // Yes or no.
@@ -46,7 +65,7 @@ fn ask(
     pattern: &[u8],
     index: &[u64],
 ) -> QueryReply
-    requires { ⌜ earlierRefusal (record { vertices = vertices; longest = longest }) start destination (now pattern) ≡ 0 ⌝ }
+    requires { ⌜ askRefusal (record { vertices = vertices; longest = longest }) start destination (now pattern) ≡ 0 ⌝ }
     ensures { λ r. ⌜
         ((edges work : List ℕ) → Meets (askedCall (record { vertices = vertices; longest = longest }) start destination (now (pattern .entry))
         (lent edges (now (index .entry)) work)) (answeredOf r) (lent edges (now (index .entry)) work))
@@ -70,7 +89,7 @@ fn search(
     index: &[u64],
     work: &mut [u64],
 ) -> QueryReply
-    requires { ⌜ earlierRefusal (record { vertices = vertices; longest = longest }) start destination (now pattern) ≡ 0 ⌝ }
+    requires { ⌜ askRefusal (record { vertices = vertices; longest = longest }) start destination (now pattern) ≡ 0 ⌝ }
     ensures { λ r. ⌜
         Meets (searchedCall (record { vertices = vertices; longest = longest }) start destination (now (pattern .entry))
         (lent (now (edges .entry)) (now (index .entry)) (now (work .entry))))
@@ -95,6 +114,7 @@ fn search(
 pub fn query(
     vertices: u32,
     longest: u32,
+    totals: [u32; MOST_LABEL],
     start: u32,
     destination: u32,
     pattern: &[u8],
@@ -103,14 +123,17 @@ pub fn query(
     work: &mut [u64],
 ) -> QueryReply
     ensures { λ r. ⌜
-        Meets (queryCall (record { vertices = vertices; longest = longest }) start destination (now (pattern .entry))
-        (lent (now (edges .entry)) (now (index .entry)) (now (work .entry))))
+        Meets (queryCall (record { size = record { vertices = vertices; longest = longest }; totals = totals }) start destination
+        (now (pattern .entry)) (lent (now (edges .entry)) (now (index .entry)) (now (work .entry))))
         (answeredOf r) (lent (now (edges .entry)) (now (index .entry)) (now (work .exit)))
         ⌝ }
 {
     let checked = check(vertices, longest, start, destination, pattern);
     if let Answer::Refused(refusal) = checked {
         return QueryReply::Refused(refusal);
+    }
+    if is_lacking(totals, pattern) {
+        return QueryReply::No;
     }
     let folded = patterns::minimum_repeat(pattern);
     if folded.times != 1 {

@@ -1,26 +1,32 @@
 -- From the public calls to their C forms.
 use mathlib.Core.Path.{_≡_, refl, sym, ap, _∙_}
 use mathlib.Core.Bool.{true, false}
-use mathlib.Core.List.{List, [], _∷_}
-use Prim.Native.Nat.{ℕ, zero, suc}
+use mathlib.Core.List.{List, [], _∷_, _++_, map, append-nil, append-assoc}
+use Prim.Native.Nat.{ℕ, zero, suc, _+_, _≤_, _<_}
+use native.Mathlib.Numerals.{add-one}
 use native.Mathlib.Omega.{arith}
-use lib.ListN.{length, set}
+use lib.ListN.{length, getD, set, take, drop, length-set, drop-of-length-le}
+use lib.Seq.{drop-cons, take-all, take-suc, take-suc-set}
+use Rattle.model.specs.Limits.{mostLabel}
+use Rattle.model.specs.Lists.{from}
 use Rattle.model.specs.Replies.{numberOf, answerOf}
 use Rattle.model.specs.declared.Refusal.{Refusal}
 use Rattle.model.specs.declared.Answer.the-variants.{Accepted, Refused}
 use Rattle.model.proofs.Tests.{test-true, test-false, test-eq}
 use Rattle.model.proofs.Replies.{number-some}
-use Rattle.calls.specs.Call.{Memory, Outcome, Meets, Returned}
+use Rattle.calls.specs.Call.{Header, Memory, Outcome, Meets, Returned}
+use Rattle.calls.specs.Change.{openChange, openCall, insertChange, insertCall, removeChange, removeCall}
+use Rattle.calls.proofs.Change.{handed-some}
 use Rattle.store.specs.Store.{returned}
 use Rattle.store.specs.declared.Changed.{Changed}
-use Rattle.rlc_c.specs.Interface.{headerIn, two?, otherRecord, wordsAfter, HandsBack, ChangesInC}
+use Rattle.rlc_c.specs.Interface.{headerIn, recordNumbers, record?, otherRecord, wordsAfter, HandsBack, ChangesInC}
 
 -- a record of another length
-pub other : (words : List ℕ) → (length words ≡ 2 → ⊥) → two? words ≡ false
-other words d = test-false (test-eq (length words) 2) d
+pub other : (words : List ℕ) → (length words ≡ recordNumbers → ⊥) → record? words ≡ false
+other words d = test-false (test-eq (length words) recordNumbers) d
 
-pub two : (words : List ℕ) → length words ≡ 2 → two? words ≡ true
-two words e = test-true (test-eq (length words) 2) e
+pub ten : (words : List ℕ) → length words ≡ recordNumbers → record? words ≡ true
+ten words e = test-true (test-eq (length words) recordNumbers) e
 
 -- ---- any call
 
@@ -28,7 +34,7 @@ two words e = test-true (test-eq (length words) 2) e
 pub untouched : {R : Type 0} {r : R} {m : Memory} → Meets (record { reply = r; memory = m }) r m
 untouched = record { reply-is = refl; edges-after = refl; index-after = refl; work-after = refl; output-after = refl }
 
--- with a record of two numbers: what the call of the store promises, its reply told as a number
+-- with a record of ten numbers: what the call of the store promises, its reply told as a number
 pub called : {R : Type 0} (told : R → ℕ) {c : Outcome R} {reply : R} {m′ : Memory} {r : ℕ} → Meets c reply m′ → r ≡ told reply
     → Meets (record { reply = told (c .reply); memory = c .memory }) r m′
 called told l q =
@@ -40,46 +46,97 @@ called told l q =
       output-after = l .output-after;
     }
 
--- ---- changing calls
+-- ---- the numbers of a record
 
--- two numbers written to a record of two
-pub written : (words : List ℕ) (a b : ℕ) → length words ≡ 2 → set (set words 0 a) 1 b ≡ a ∷ b ∷ []
-written [] a b e = absurd (omega arith)
-written (x ∷ []) a b e = absurd (omega arith)
-written (x ∷ y ∷ []) a b e = refl
-written (x ∷ y ∷ z ∷ l) a b e = absurd (omega arith)
+pub size-is : {h h′ : Header} → h ≡ h′ → h .size ≡ h′ .size
+size-is e = ap (λ (h : Header). h .size) e
 
--- such a record holds what it says
-words-hold : (words : List ℕ) → length words ≡ 2 → headerIn words .vertices ∷ headerIn words .longest ∷ [] ≡ words
+-- the last m of n + m numbers, read one by one
+pub numbers-behind : (words : List ℕ) (n m : ℕ) → length words ≡ n + m → map (λ i. getD words i 0) (from n m) ≡ drop n words
+unfolding from
+numbers-behind words n zero e = sym (drop-of-length-le words {i = n} (omega arith))
+numbers-behind words n (suc m) e = ap (λ (l : List ℕ). getD words n 0 ∷ l) (numbers-behind words (suc n) m (omega arith)) ∙ sym (drop-cons words n 0 (omega arith))
+
+-- a record holds what it says
+words-hold : (words : List ℕ) → length words ≡ recordNumbers → getD words 0 0 ∷ getD words 1 0 ∷ drop 2 words ≡ words
 words-hold [] e = absurd (omega arith)
 words-hold (x ∷ []) e = absurd (omega arith)
-words-hold (x ∷ y ∷ []) e = refl
-words-hold (x ∷ y ∷ z ∷ l) e = absurd (omega arith)
+words-hold (x ∷ y ∷ l) e = refl
+
+-- the first two numbers written, and behind them the totals
+pub written : (words totals : List ℕ) (a b : ℕ) → length words ≡ recordNumbers → take 2 (set (set words 0 a) 1 b) ++ totals ≡ a ∷ b ∷ totals
+written [] totals a b e = absurd (omega arith)
+written (x ∷ []) totals a b e = absurd (omega arith)
+written (x ∷ y ∷ l) totals a b e = refl
+
+-- the first i totals written behind the two numbers
+pub record TotalsWritten (words₀ totals words : List ℕ) (i : ℕ) : Type 0 where
+  pub long : length words ≡ recordNumbers
+  pub front : take (2 + i) words ≡ take 2 words₀ ++ take i totals
+
+pub none-written : (words totals : List ℕ) → length words ≡ recordNumbers → TotalsWritten words totals words 0
+none-written words totals e = record { long = e; front = sym (append-nil (take 2 words)) }
+
+module _ {words₀ totals words : List ℕ} {i : ℕ} (t : TotalsWritten words₀ totals words i) (long : length totals ≡ mostLabel) where
+  pub one-written : i < mostLabel → TotalsWritten words₀ totals (set words (2 + i) (getD totals i 0)) (i + 1)
+  one-written h = record {
+    long = length-set words (2 + i) (getD totals i 0) ∙ t .long;
+    front =
+        let next : 2 + (i + 1) ≡ suc (2 + i) = omega arith in
+        rw (next, add-one i)
+        (take-suc-set words (2 + i) (getD totals i 0) (omega (arith, t .long))
+        ∙ ap (λ (l : List ℕ). l ++ (getD totals i 0 ∷ [])) (t .front)
+        ∙ append-assoc (take 2 words₀) (take i totals) (getD totals i 0 ∷ [])
+        ∙ ap (λ (l : List ℕ). take 2 words₀ ++ l) (sym (take-suc totals i 0 (omega arith))));
+  }
+
+  pub all-written : mostLabel ≤ i → words ≡ take 2 words₀ ++ totals
+  all-written h =
+      sym (take-all (2 + i) words (omega (arith, t .long))) ∙ t .front ∙ ap (λ (l : List ℕ). take 2 words₀ ++ l) (take-all i totals (omega arith))
+
+-- ---- changing calls
+
+-- a refusal hands back the record given
+pub open-given : (h : Header) (m : Memory) → 1 ≤ openCall h m .reply .answer → openCall h m .reply .header ≡ h
+unfolding openCall
+open-given h m some = handed-some h (h .size) _ (openChange (h .size) m .reply) some
+
+module _ (h : Header) (from label to : ℕ) (m : Memory) where
+  pub insert-given : 1 ≤ insertCall h from label to m .reply .answer → insertCall h from label to m .reply .header ≡ h
+  unfolding insertCall
+  insert-given some = handed-some h (h .size) _ (insertChange (h .size) from label to m .reply) some
+
+  pub remove-given : 1 ≤ removeCall h from label to m .reply .answer → removeCall h from label to m .reply .header ≡ h
+  unfolding removeCall
+  remove-given some = handed-some h (h .size) _ (removeChange (h .size) from label to m .reply) some
+
+abbrev numbersOf : Header → List ℕ
+numbersOf h = h .size .vertices ∷ h .size .longest ∷ h .totals
 
 module _ {words : List ℕ} {m : Memory} {c : Outcome Returned} where
-  pub unchanged : (length words ≡ 2 → ⊥) → ChangesInC words m c otherRecord words m
+  pub unchanged : (length words ≡ recordNumbers → ⊥) → ChangesInC words m c otherRecord words m
   unchanged d = record { meets = rw (other words d) untouched; words-after = rw (other words d) refl }
 
-  module _ (e : length words ≡ 2) {made : Changed} {m′ : Memory} {r : ℕ} (l : Meets c (returned made) m′) where
+  module _ (e : length words ≡ recordNumbers) {made : Changed} {m′ : Memory} {r : ℕ} (l : Meets c (returned made) m′) where
     -- a call that hands back the record given with a refusal
-    pub changed : {words′ : List ℕ} → c .reply .header ≡ headerIn words → HandsBack made r words′ → ChangesInC words m c r words′ m′
+    pub changed : {words′ : List ℕ} → (1 ≤ c .reply .answer → c .reply .header ≡ headerIn words) → HandsBack made r words′ → ChangesInC words m c r words′ m′
     changed {words′} hands b =
         record {
-          meets = rw (two words e) (called (λ (x : Returned). x .answer) l (b .number));
-          words-after = rw (two words e) (b .words-after ∙ ap (λ (k : Returned). k .header .vertices ∷ k .header .longest ∷ []) (l .reply-is) ∙ go (c .reply .answer));
+          meets = rw (ten words e) (called (λ (x : Returned). x .answer) l (b .number));
+          words-after = rw (ten words e) (b .words-after ∙ ap (λ (k : Returned). numbersOf (k .header)) (l .reply-is) ∙ go (c .reply .answer) refl);
         }
       where
-        go : (n : ℕ) → c .reply .header .vertices ∷ c .reply .header .longest ∷ [] ≡ wordsAfter words n (c .reply .header)
-        go zero = refl
-        go (suc n) = rw hands (words-hold words e)
+        go : (n : ℕ) → c .reply .answer ≡ n → numbersOf (c .reply .header) ≡ wordsAfter words n (c .reply .header)
+        go zero q = refl
+        go (suc n) q = ap numbersOf (hands (omega (arith, q))) ∙ words-hold words e
 
     -- a card that is refused, and one that is accepted
     pub card-refused : {refusal : Refusal} → made .answer ≡ Refused refusal → r ≡ numberOf refusal → ChangesInC words m c r words m′
     card-refused {refusal} told q =
         let number : answerOf (made .answer) ≡ numberOf refusal = ap answerOf told in
         record {
-          meets = rw (two words e) (called (λ (x : Returned). x .answer) l (q ∙ sym number));
-          words-after = rw (two words e) (go (c .reply .answer) (sym (ap (λ (k : Returned). k .answer) (l .reply-is)) ∙ number));
+          meets = rw (ten words e) (called (λ (x : Returned). x .answer) l (q ∙ sym number));
+          words-after = rw (ten words e) (go (c .reply .answer) (sym (ap (λ (k : Returned). k .answer) (l .reply-is)) ∙ number));
         }
       where
         go : (n : ℕ) → n ≡ numberOf refusal → words ≡ wordsAfter words n (c .reply .header)
@@ -90,6 +147,6 @@ module _ {words : List ℕ} {m : Memory} {c : Outcome Returned} where
     card-accepted {words′} told b =
         let zero-is : c .reply .answer ≡ 0 = sym (ap (λ (k : Returned). k .answer) (l .reply-is)) ∙ ap answerOf told in
         record {
-          meets = rw (two words e) (called (λ (x : Returned). x .answer) l (b .number));
-          words-after = rw (two words e, zero-is) (b .words-after ∙ ap (λ (k : Returned). k .header .vertices ∷ k .header .longest ∷ []) (l .reply-is));
+          meets = rw (ten words e) (called (λ (x : Returned). x .answer) l (b .number));
+          words-after = rw (ten words e, zero-is) (b .words-after ∙ ap (λ (k : Returned). numbersOf (k .header)) (l .reply-is));
         }

@@ -1,10 +1,10 @@
--- The C interface: a record is two numbers in memory, and a reply is a number.
+-- The C interface: a record is ten numbers in memory, and a reply is a number.
 use mathlib.Core.Path.{_≡_}
 use mathlib.Core.Bool.{Bool, cond}
-use mathlib.Core.List.{List, [], _∷_}
+use mathlib.Core.List.{List, _∷_}
 use Prim.Native.Nat.{ℕ, zero, suc, _+_, _*_, _^_}
 use lib.Dec.{eqb}
-use lib.ListN.{length, getD}
+use lib.ListN.{length, getD, drop}
 use Rattle.model.specs.Query.{Answered, Yes as AnsweredYes, No as AnsweredNo, Refused as AnsweredRefused}
 use Rattle.model.specs.States.{Reply, Yes, No, Spent, Refused}
 use Rattle.model.specs.Routes.{Routed, Yes as RoutedYes, No as RoutedNo, Refused as RoutedRefused}
@@ -12,35 +12,38 @@ use Rattle.model.specs.Replies.{answerOf}
 use Rattle.calls.specs.Call.{Header, Memory, Outcome, Meets, Returned, Wrote, Length, Refused as NotWritten}
 use Rattle.store.specs.declared.Changed.{Changed}
 
--- the record that the numbers lent hold
+-- the record that the numbers lent hold: places, k and, as "the record gains eight totals" (document 02, Four), these
 abbrev pub headerIn : List ℕ → Header
-headerIn words = record { vertices = getD words 0 0; longest = getD words 1 0 }
+headerIn words = record { size = record { vertices = getD words 0 0; longest = getD words 1 0 }; totals = drop 2 words }
 
--- a record has two numbers; with any other length "the call returns 255 and touches nothing"
-abbrev pub two? : List ℕ → Bool
-two? words = eqb (length words) 2
+-- a record has ten numbers; with any other length "the call returns 255 and touches nothing"
+abbrev pub recordNumbers : ℕ
+recordNumbers = 10
+
+abbrev pub record? : List ℕ → Bool
+record? words = eqb (length words) recordNumbers
 
 abbrev pub otherRecord : ℕ
 otherRecord = 255
 
 -- the C form of a call: its reply as a number and memory afterwards; with a record of another length that number, and memory as it was
 abbrev pub inC : {R : Type 0} → List ℕ → (R → ℕ) → ℕ → Memory → Outcome R → Outcome ℕ
-inC words told other m c = cond (two? words) (record { reply = told (c .reply); memory = c .memory }) (record { reply = other; memory = m })
+inC words told other m c = cond (record? words) (record { reply = told (c .reply); memory = c .memory }) (record { reply = other; memory = m })
 
 -- the numbers lent as record, afterwards: the record handed back if the call is accepted. (A refusal hands back the record as given, or none.)
 abbrev pub wordsAfter : List ℕ → ℕ → Header → List ℕ
-wordsAfter words zero h = h .vertices ∷ h .longest ∷ []
+wordsAfter words zero h = h .size .vertices ∷ h .size .longest ∷ h .totals
 wordsAfter words (suc n) h = words
 
 -- a changing call: 0 or the number of the refusal, the record handed back, and memory afterwards
 pub record ChangesInC (words : List ℕ) (m : Memory) (c : Outcome Returned) (r : ℕ) (words′ : List ℕ) (m′ : Memory) : Type 0 where
   pub meets : Meets (inC words (λ x. x .answer) otherRecord m c) r m′
-  pub words-after : words′ ≡ cond (two? words) (wordsAfter words (c .reply .answer) (c .reply .header)) words
+  pub words-after : words′ ≡ cond (record? words) (wordsAfter words (c .reply .answer) (c .reply .header)) words
 
 -- what a changing call of the store hands back: its answer as a number, and its record as the numbers lent
 pub record HandsBack (c : Changed) (r : ℕ) (words : List ℕ) : Type 0 where
   pub number : r ≡ answerOf (c .answer)
-  pub words-after : words ≡ c .header .vertices ∷ c .header .longest ∷ []
+  pub words-after : words ≡ c .header .vertices ∷ c .header .longest ∷ c .header .totals
 
 -- "0 no, 100 yes, else the number"
 abbrev pub answeredInC : Answered → ℕ

@@ -1,6 +1,7 @@
-// The C interface (include/rlc.h): each function is one public call of `store`, with the record as two numbers in memory and the reply as a
+// The C interface (include/rlc.h): each function is one public call of `store`, with the record as ten numbers in memory and the reply as a
 // number. A record of another length gives 255, and nothing is touched.
 use model::Answer;
+use model::MOST_LABEL;
 use model::QueryReply;
 use model::RouteReply;
 use model::SearchReply;
@@ -9,8 +10,8 @@ use store::Header;
 use store::Written;
 ghost use mathlib.Core.Path.{_≡_};
 ghost use Prim.Native.Nat.{_*_};
-ghost use mathlib.Core.List.{[]};
-ghost use lib.ListN.{length, getD};
+ghost use mathlib.Core.List.{[], _++_};
+ghost use lib.ListN.{length, take};
 ghost use Rattle.model.specs.Computed.Patterns.{foldedLength, timesWritten, Folds};
 ghost use Rattle.calls.specs.Call.{lent, lentOut, Meets};
 ghost use Rattle.calls.specs.Search.{searchCall};
@@ -18,7 +19,11 @@ ghost use Rattle.calls.specs.Route.{routeCall};
 ghost use Rattle.calls.specs.Query.{queryCall};
 ghost use Rattle.calls.specs.Change.{openCall, insertCall, removeCall};
 ghost use Rattle.calls.specs.Card.{readCall, writeCall};
-ghost use Rattle.rlc_c.specs.Interface.{headerIn, otherRecord, replyUnit, inC, HandsBack, ChangesInC, answeredInC, repliedInC, routedInC, wroteInC};
+ghost use Rattle.store.specs.Store.{numbers};
+ghost use Rattle.rlc_c.specs.Interface.{headerIn, recordNumbers, otherRecord, replyUnit, inC, HandsBack, ChangesInC, answeredInC, repliedInC, routedInC, wroteInC};
+
+// How many numbers a record has: vertices, longest pattern, and a total for each label.
+const RECORD: usize = 2 + MOST_LABEL;
 
 const OTHER_RECORD: u32 = 255;
 
@@ -29,25 +34,49 @@ const SPENT: u32 = 101;
 // A reply stands above 32 bits for the levels, or the edges of a route.
 const UNIT: u64 = 1 << 32;
 
-// The record that two words hold.
+// The record that ten words hold.
 fn header_in(words: &[u32]) -> Header
-    requires { ⌜ length (now words) ≡ 2 ⌝ }
-    ensures { λ r. ⌜ r ≡ record { vertices = getD (now (words .entry)) 0 0; longest = getD (now (words .entry)) 1 0 } ⌝ }
+    requires { ⌜ length (now words) ≡ recordNumbers ⌝ }
+    ensures { λ r. ⌜ numbers r ≡ headerIn (now (words .entry)) ⌝ }
 {
     Header {
         vertices: words[0],
         longest: words[1],
+        totals: [
+            words[2],
+            words[3],
+            words[4],
+            words[5],
+            words[6],
+            words[7],
+            words[8],
+            words[9],
+        ],
+    }
+}
+
+// Writes the totals behind the first two numbers of a record.
+fn write_totals(words: &mut [u32], totals: [u32; MOST_LABEL])
+    requires { ⌜ length (now words) ≡ recordNumbers ⌝ }
+    ensures { λ _. ⌜ now (words .exit) ≡ take 2 (now (words .entry)) ++ totals ⌝ }
+{
+    let mut i = 0;
+    while i < MOST_LABEL {
+        words[2 + i] = totals[i];
+        i += 1;
     }
 }
 
 // Writes the record that a call hands back, and tells its answer as a number.
 fn hand_back(words: &mut [u32], changed: Changed) -> u32
-    requires { ⌜ length (now words) ≡ 2 ⌝ }
+    requires { ⌜ length (now words) ≡ recordNumbers ⌝ }
     ensures { λ r. ⌜ HandsBack changed r (now (words .exit)) ⌝ }
 {
     let header = changed.header;
+    let totals = header.totals;
     words[0] = header.vertices;
     words[1] = header.longest;
+    write_totals(words, totals);
     let answer = changed.answer;
     match answer {
         Answer::Accepted => 0,
@@ -64,7 +93,7 @@ pub extern "C" fn rlc_open(words: &mut [u32], edges: &mut [u32], index: &mut [u6
         r (now (words .exit)) (lent (now (edges .exit)) (now (index .exit)) [])
         ⌝ }
 {
-    if words.len() != 2 {
+    if words.len() != RECORD {
         return OTHER_RECORD;
     }
     let header = header_in(words);
@@ -91,7 +120,7 @@ pub extern "C" fn rlc_insert(
         r (now (words .exit)) (lent (now (edges .exit)) (now (index .exit)) (now (work .exit)))
         ⌝ }
 {
-    if words.len() != 2 {
+    if words.len() != RECORD {
         return OTHER_RECORD;
     }
     let header = header_in(words);
@@ -118,7 +147,7 @@ pub extern "C" fn rlc_remove(
         r (now (words .exit)) (lent (now (edges .exit)) (now (index .exit)) (now (work .exit)))
         ⌝ }
 {
-    if words.len() != 2 {
+    if words.len() != RECORD {
         return OTHER_RECORD;
     }
     let header = header_in(words);
@@ -143,7 +172,7 @@ pub extern "C" fn rlc_read_card(
         r (now (words .exit)) (lent (now (edges .exit)) (now (index .exit)) (now (work .exit)))
         ⌝ }
 {
-    if words.len() != 2 {
+    if words.len() != RECORD {
         return OTHER_RECORD;
     }
     let changed = store::read_card(card, edges, index, work);
@@ -173,7 +202,7 @@ pub extern "C" fn rlc_query(
         r (lent (now (edges .entry)) (now (index .entry)) (now (work .exit)))
         ⌝ }
 {
-    if words.len() != 2 {
+    if words.len() != RECORD {
         return OTHER_RECORD;
     }
     let header = header_in(words);
@@ -198,12 +227,12 @@ pub extern "C" fn rlc_search(
 ) -> u64
     ensures { λ r. ⌜
         Meets (inC (now (words .entry)) repliedInC (otherRecord * replyUnit) (lent (now (edges .entry)) [] (now (work .entry)))
-        (searchCall (headerIn (now (words .entry))) start destination (now (pattern .entry)) «level_limit»
+        (searchCall (headerIn (now (words .entry)) .size) start destination (now (pattern .entry)) «level_limit»
         (lent (now (edges .entry)) [] (now (work .entry)))))
         r (lent (now (edges .entry)) [] (now (work .exit)))
         ⌝ }
 {
-    if words.len() != 2 {
+    if words.len() != RECORD {
         return OTHER_RECORD as u64 * UNIT;
     }
     let header = header_in(words);
@@ -237,12 +266,12 @@ pub extern "C" fn rlc_route(
 ) -> u64
     ensures { λ r. ⌜
         Meets (inC (now (words .entry)) routedInC (otherRecord * replyUnit) (lentOut (now (edges .entry)) (now (work .entry)) (now (walk .entry)))
-        (routeCall (headerIn (now (words .entry))) start destination (now (pattern .entry))
+        (routeCall (headerIn (now (words .entry)) .size) start destination (now (pattern .entry))
         (lentOut (now (edges .entry)) (now (work .entry)) (now (walk .entry)))))
         r (lentOut (now (edges .entry)) (now (work .exit)) (now (walk .exit)))
         ⌝ }
 {
-    if words.len() != 2 {
+    if words.len() != RECORD {
         return OTHER_RECORD as u64 * UNIT;
     }
     let header = header_in(words);
@@ -260,11 +289,11 @@ pub extern "C" fn rlc_write_card(words: &[u32], edges: &[u32], output: &mut [u8]
     ensures { λ r. ⌜
         Meets (inC (now (words .entry)) wroteInC (otherRecord * replyUnit)
         (lentOut (now (edges .entry)) [] (now (output .entry)))
-        (writeCall (headerIn (now (words .entry))) (lentOut (now (edges .entry)) [] (now (output .entry)))))
+        (writeCall (headerIn (now (words .entry)) .size) (lentOut (now (edges .entry)) [] (now (output .entry)))))
         r (lentOut (now (edges .entry)) [] (now (output .exit)))
         ⌝ }
 {
-    if words.len() != 2 {
+    if words.len() != RECORD {
         return OTHER_RECORD as u64 * UNIT;
     }
     let header = header_in(words);

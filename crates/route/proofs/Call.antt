@@ -11,7 +11,7 @@ use Rattle.model.specs.Computed.Routes.{routeOf}
 use Rattle.model.specs.declared.Refusal.{Refusal}
 use Rattle.model.specs.declared.RouteReply.{RouteReply}
 use Rattle.model.proofs.RouteSearch.{route-as}
-use Rattle.calls.specs.Call.{Header, graphOf, Memory, lent, Meets}
+use Rattle.calls.specs.Call.{Size, graphOf, Memory, lent, Meets}
 use Rattle.calls.specs.Search.{searchRefusal}
 use Rattle.calls.specs.Route.{routeCall}
 use Rattle.calls.proofs.Calls.{refused-meets, accepted-is}
@@ -20,7 +20,7 @@ use Rattle.checks.proofs.LayoutChecks.{layout-memory}
 use Rattle.level_search.specs.Run.{SearchPasses}
 use Rattle.route.specs.Run.{Lights, Shows}
 
-module _ (h : Header) (s t : ℕ) (pattern : List ℕ) (m : Memory) where
+module _ (h : Size) (s t : ℕ) (pattern : List ℕ) (m : Memory) where
   -- the checks do not look at walk memory
   checks-same : searchRefusal h s t pattern m ≡ searchRefusal h s t pattern (lent (m .edges) (m .index) (m .work))
   unfolding searchRefusal
@@ -41,7 +41,7 @@ module _ (h : Header) (s t : ℕ) (pattern : List ℕ) (m : Memory) where
   unfolding routeCall
   route-refused r e = refused-meets Refused m _ (searchRefusal h s t pattern m) r (checks-same ∙ e)
 
-pub route-meets : {h : Header} {s t : ℕ} {pattern : List ℕ} {m : Memory} {n : ℕ} → SearchPasses h s t pattern m n → {r : RouteReply} {walk′ work′ : List ℕ}
+pub route-meets : {h : Size} {s t : ℕ} {pattern : List ℕ} {m : Memory} {n : ℕ} → SearchPasses h s t pattern m n → {r : RouteReply} {walk′ work′ : List ℕ}
     → Shows (bare (h .vertices) (take n (m .edges))) pattern s t (m .output) (m .work) r walk′ work′
     → Meets (routeCall h s t pattern m) (routedOf r) (record { edges = m .edges; index = m .index; work = work′; output = walk′ })
 unfolding routeCall

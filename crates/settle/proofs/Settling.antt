@@ -15,7 +15,7 @@ use Rattle.model.specs.declared.Refusal.the-variants.{IndexSlots}
 use Rattle.model.proofs.Tests.{test-lt, test-yields, test-fails}
 use Rattle.model.proofs.Lists.{part-all}
 use Rattle.memory.specs.Widths.{Narrow}
-use Rattle.calls.specs.Call.{Header, graphOf, Memory, lent, noRecord}
+use Rattle.calls.specs.Call.{Size, graphOf, Memory, lent}
 use Rattle.calls.proofs.Change.{settle-fits, settle-short}
 use Rattle.rows.specs.Region.{savedNumbers}
 use Rattle.build.specs.Build.{Saved}
@@ -52,7 +52,7 @@ module _ {g : Graph} {index work index′ work′ : List ℕ} where
 pub cleared : {work work′ work″ : List ℕ} → Saved work work′ → work″ ≡ zeroed work′ → work″ ≡ zeroed work
 cleared v c = c ∙ ap (λ (k : ℕ). replicate k 0) (v .len)
 
-module _ {h : Header} {n : ℕ} {edges index work : List ℕ} (s : Settleable h n edges index work) where
+module _ {h : Size} {n : ℕ} {edges index work : List ℕ} (s : Settleable h n edges index work) where
   pub edges-front : n ≡ length (take n edges)
   edges-front = sym (length-take-le n edges (s .fits))
 
@@ -101,11 +101,11 @@ module _ {h : Header} {n : ℕ} {edges index work : List ℕ} (s : Settleable h 
         → Settles h n edges index work (Refused IndexSlots) edges′ index′ work″
     settles-short x {edges′} e =
         let (fewer, same) = short x in
-        settle-short noRecord h (take n edges) saved fewer (e ∙ restored (x .saved)) same zero refl
+        settle-short h (take n edges) saved fewer (e ∙ restored (x .saved)) same zero refl
 
     -- accepted: the index is built
     pub settles-fits : {k : ℕ} → Indexes (graphOf h (take n edges)) index work index′ work′ (Entries k)
         → Settles h n edges index work Accepted edges index′ work″
     settles-fits x =
         let (fits, is) = full x in
-        settle-fits noRecord h (take n edges) saved fits (s .zeros ∙ ap (λ (k : ℕ). filled k (take n edges)) (sym saved-size)) is zero refl
+        settle-fits h (take n edges) saved fits (s .zeros ∙ ap (λ (k : ℕ). filled k (take n edges)) (sym saved-size)) is zero refl

@@ -11,8 +11,8 @@ use Rattle.model.specs.Replies.{answerOf}
 use Rattle.model.specs.Computed.Edges.{edge?}
 use Rattle.model.specs.declared.Answer.{Answer}
 use Rattle.memory.specs.Widths.{Narrow}
-use Rattle.calls.specs.Call.{Header, lent, noRecord, Meets}
-use Rattle.calls.specs.Change.{answers, settle}
+use Rattle.calls.specs.Call.{Size, lent, Meets}
+use Rattle.calls.specs.Change.{settle}
 use Rattle.rows.specs.Region.{savedNumbers}
 
 -- what edge memory held, as saved in work memory: as many numbers as it has slots
@@ -26,7 +26,7 @@ pub record Saves (edges work work′ : List ℕ) : Type 0 where
   pub work-long : length work′ ≡ length work
 
 -- n rising edges of the graph and then zeros stand in edge memory, and work memory has room for a build
-pub record Settleable (h : Header) (n : ℕ) (edges index work : List ℕ) : Type 0 where
+pub record Settleable (h : Size) (n : ℕ) (edges index work : List ℕ) : Type 0 where
   pub bounds : Bounds (h .vertices) (h .longest)
   pub few : length edges ≤ mostEdges
   pub fits : n ≤ length edges
@@ -37,6 +37,6 @@ pub record Settleable (h : Header) (n : ℕ) (edges index work : List ℕ) : Typ
   pub narrow : Narrow (savedIn work edges)
 
 -- the answer and memory afterwards are those of settling, from the edge memory that was saved
-abbrev pub Settles : (h : Header) (n : ℕ) (edges index work : List ℕ) (r : Answer) (edges′ index′ work′ : List ℕ) → Type 0
+abbrev pub Settles : (h : Size) (n : ℕ) (edges index work : List ℕ) (r : Answer) (edges′ index′ work′ : List ℕ) → Type 0
 Settles h n edges index work r edges′ index′ work′ =
-    Meets (answers (settle noRecord h (take n edges) (lent (savedIn work edges) index work))) (answerOf r) (lent edges′ index′ work′)
+    Meets (settle h (take n edges) (lent (savedIn work edges) index work)) (answerOf r) (lent edges′ index′ work′)

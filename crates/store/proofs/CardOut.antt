@@ -9,7 +9,7 @@ use Rattle.model.specs.Edges.{standing, Bounds}
 use Rattle.model.specs.Replies.{numberOf}
 use Rattle.model.specs.declared.Refusal.{Refusal}
 use Rattle.edges.proofs.Memory.{Scans}
-use Rattle.calls.specs.Call.{Header as Numbers, Memory, Meets, Length, Refused}
+use Rattle.calls.specs.Call.{Size, Memory, Meets, Length, Refused}
 use Rattle.calls.specs.Card.{cardOf, writeRefusal, writeCall}
 use Rattle.calls.proofs.Calls.{refused-meets, accepted-is}
 use Rattle.calls.proofs.Card.{Cardable, card-says}
@@ -17,11 +17,11 @@ use Rattle.checks.proofs.LayoutChecks.{layout-header, layout-memory}
 use Rattle.card.specs.Card.{Writable, WritePasses}
 
 -- a refusal leaves the output alone
-pub write-stops : (h : Numbers) (m : Memory) (r : Refusal) → writeRefusal h m ≡ numberOf r → Meets (writeCall h m) (Refused (numberOf r)) m
+pub write-stops : (h : Size) (m : Memory) (r : Refusal) → writeRefusal h m ≡ numberOf r → Meets (writeCall h m) (Refused (numberOf r)) m
 unfolding writeCall
 write-stops h m r e = refused-meets Refused m _ (writeRefusal h m) r e
 
-module _ {h : Numbers} {m : Memory} {n : ℕ} (p : WritePasses h m n) where
+module _ {h : Size} {m : Memory} {n : ℕ} (p : WritePasses h m n) where
   pub memory : Scans (h .vertices) (m .edges) n
   memory = layout-memory (p .layout)
 

@@ -8,7 +8,7 @@ use Rattle.store.specs.declared.Written.the-variants.{Length, Refused}
 
 -- the numbers of a header
 abbrev pub numbers : Header → Numbers
-numbers h = record { vertices = h .vertices; longest = h .longest }
+numbers h = record { size = record { vertices = h .vertices; longest = h .longest }; totals = h .totals }
 
 -- the record handed back, and 0 or the number of the refusal. No record is a header that is all zero.
 abbrev pub returned : Changed → Returned

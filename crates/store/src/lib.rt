@@ -1,8 +1,9 @@
 // The store as firmware sees it: every call of documents 01 and 02, for all inputs. Opening, insertion (laying) and removal (lifting) are operations
-// of the header (record): each takes it and hands it back with the answer.
+// of the header (record): each takes it and hands it back with the answer, its totals counted anew.
 use checks::Standing;
 use model::Answer;
 use model::HEAD_BYTES;
+use model::MOST_LABEL;
 use model::QueryReply;
 use model::Refusal;
 use model::RouteReply;
@@ -11,20 +12,25 @@ use model::TRIPLE_BYTES;
 use patterns::Folded;
 ghost use mathlib.Core.Path.{_≡_};
 ghost use mathlib.Core.List.{[]};
-ghost use Rattle.model.specs.Replies.{answeredOf, numberOf, replyOf, routedOf};
+ghost use Prim.Native.Nat.{_≤_};
+ghost use lib.ListN.{length};
+ghost use Rattle.model.specs.Limits.{mostEdges};
+ghost use Rattle.model.specs.Replies.{answeredOf, answerOf, numberOf, replyOf, routedOf};
 ghost use Rattle.model.specs.Computed.Patterns.{Folds};
 ghost use Rattle.calls.specs.Call.{lent, lentOut, Meets};
 ghost use Rattle.calls.specs.Search.{searchCall};
 ghost use Rattle.calls.specs.Route.{routeCall};
 ghost use Rattle.calls.specs.Query.{queryCall};
-ghost use Rattle.calls.specs.Change.{openCall, insertCall, removeCall};
+ghost use Rattle.calls.specs.Change.{returning, openCall, insertCall, removeCall};
 ghost use Rattle.calls.specs.Card.{readCall, writeCall};
 ghost use Rattle.store.specs.Store.{numbers, returned, wroteOf};
 
-// "The record holds the number of places and k."
+// "The record holds the number of places and k", and "gains eight totals, the legs of each colour" (document 02, Four): of labels 1 to 8. Only the
+// query looks at totals.
 pub struct Header {
     pub vertices: u32,
     pub longest: u32,
+    pub totals: [u32; MOST_LABEL],
 }
 
 // The header that a call hands back, and its answer.
@@ -39,6 +45,27 @@ pub enum Written {
     Refused(Refusal),
 }
 
+// What a change hands back, by its answer: the header given, or one with those numbers and the totals of the edges that then stand.
+fn hand_back(given: Header, vertices: u32, longest: u32, edges: &[u32], answer: Answer) -> Changed
+    requires { ⌜ (answerOf answer ≡ 0 → length (now edges) ≤ mostEdges) ⌝ }
+    ensures { λ r. ⌜ returned r ≡ returning (answerOf answer) (numbers given) (record { vertices = vertices; longest = longest }) (now (edges .entry)) ⌝ }
+{
+    if let Answer::Refused(refusal) = answer {
+        return Changed {
+            header: given,
+            answer: Answer::Refused(refusal),
+        };
+    }
+    Changed {
+        header: Header {
+            vertices: vertices,
+            longest: longest,
+            totals: edges::totals(edges),
+        },
+        answer: Answer::Accepted,
+    }
+}
+
 impl Header {
     // Opening. It is lent no work memory.
     pub fn open(self, edges: &mut [u32], index: &mut [u64]) -> Changed
@@ -48,10 +75,7 @@ impl Header {
             ⌝ }
     {
         let answer = changes::open(self.vertices, self.longest, edges, index);
-        Changed {
-            header: self,
-            answer: answer,
-        }
+        hand_back(self, self.vertices, self.longest, edges, answer)
     }
 
     // Insertion (laying).
@@ -80,10 +104,7 @@ impl Header {
             index,
             work,
         );
-        Changed {
-            header: self,
-            answer: answer,
-        }
+        hand_back(self, self.vertices, self.longest, edges, answer)
     }
 
     // Removal (lifting).
@@ -112,10 +133,7 @@ impl Header {
             index,
             work,
         );
-        Changed {
-            header: self,
-            answer: answer,
-        }
+        hand_back(self, self.vertices, self.longest, edges, answer)
     }
 }
 
@@ -127,20 +145,19 @@ pub fn read_card(card: &[u8], edges: &mut [u32], index: &mut [u64], work: &mut [
         ⌝ }
 {
     let read = changes::read(card, edges, index, work);
+    let none = Header {
+        vertices: 0,
+        longest: 0,
+        totals: [0; MOST_LABEL],
+    };
     let answer = read.answer;
-    Changed {
-        header: Header {
-            vertices: read.vertices,
-            longest: read.longest,
-        },
-        answer: answer,
-    }
+    hand_back(none, read.vertices, read.longest, edges, answer)
 }
 
 // Writes the layout card to the front of the output, and returns its length.
 pub fn write_card(header: Header, edges: &[u32], output: &mut [u8]) -> Written
     ensures { λ r. ⌜
-        Meets (writeCall (numbers header) (lentOut (now (edges .entry)) [] (now (output .entry))))
+        Meets (writeCall (numbers header .size) (lentOut (now (edges .entry)) [] (now (output .entry))))
         (wroteOf r) (lentOut (now (edges .entry)) [] (now (output .exit)))
         ⌝ }
 {
@@ -156,7 +173,8 @@ pub fn write_card(header: Header, edges: &[u32], output: &mut [u8]) -> Written
     }
 }
 
-// The query (question). Edge and work memory are looked at only if the pattern repeats itself (document 02, Two).
+// The query (question). A label whose total is 0 is a no at once (document 02, Four). Edge and work memory are looked at only if the pattern repeats
+// itself (Two).
 pub fn query(
     header: Header,
     start: u32,
@@ -172,9 +190,11 @@ pub fn query(
         (answeredOf r) (lent (now (edges .entry)) (now (index .entry)) (now (work .exit)))
         ⌝ }
 {
+    let totals = header.totals;
     query::query(
         header.vertices,
         header.longest,
+        totals,
         start,
         destination,
         pattern,
@@ -195,7 +215,7 @@ pub fn level_search(
     work: &mut [u64],
 ) -> SearchReply
     ensures { λ r. ⌜
-        Meets (searchCall (numbers header) start destination (now (pattern .entry)) «level_limit»
+        Meets (searchCall (numbers header .size) start destination (now (pattern .entry)) «level_limit»
         (lent (now (edges .entry)) [] (now (work .entry)))) (replyOf r) (lent (now (edges .entry)) [] (now (work .exit)))
         ⌝ }
 {
@@ -222,7 +242,7 @@ pub fn route(
     work: &mut [u64],
 ) -> RouteReply
     ensures { λ r. ⌜
-        Meets (routeCall (numbers header) start destination (now (pattern .entry))
+        Meets (routeCall (numbers header .size) start destination (now (pattern .entry))
         (lentOut (now (edges .entry)) (now (work .entry)) (now (walk .entry))))
         (routedOf r) (lentOut (now (edges .entry)) (now (work .exit)) (now (walk .exit)))
         ⌝ }

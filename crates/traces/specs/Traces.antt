@@ -35,7 +35,7 @@ lentTo held work = lent (held .edges) (held .index) work
 pub data Step (held : Held) : Given → List ℕ → Changed → List ℕ → List ℕ → Type 0 where
   opens : {r : Changed} {edges index : List ℕ} (header : Header)
       → Meets (openCall (numbers header) (lentTo held [])) (returned r) (lent edges index [])
-      → Step held (opening (header .vertices) (header .longest)) [] r edges index
+      → Step held (opening (header .vertices) (header .longest) (header .totals)) [] r edges index
   inserts : {r : Changed} {edges index : List ℕ} (from label to : ℕ) (work left : List ℕ)
       → Meets (insertCall (numbers (held .header)) from label to (lentTo held work)) (returned r) (lent edges index left)
       → Step held (insertion from label to) work r edges index

@@ -12,7 +12,7 @@ ghost use Rattle.traces.specs.Traces.{Step};
 pub fn open(header: Header, edges: &mut [u32], index: &mut [u64]) -> Changed
     ensures { λ r. ⌜
         ((last : Kept) → Step (record { header = last; edges = now (edges .entry); index = now (index .entry) })
-        (opening (header .vertices) (header .longest)) [] r (now (edges .exit)) (now (index .exit)))
+        (opening (header .vertices) (header .longest) (header .totals)) [] r (now (edges .exit)) (now (index .exit)))
         ⌝ }
 {
     header.open(edges, index)

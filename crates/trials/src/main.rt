@@ -1,8 +1,11 @@
-// The unstarred trial runs of document 01 and document 02's of a pattern keyed twice and of routes, through the public calls: a line for each, with
-// 0 if it is accepted or for a no, 100 for a yes, or the number of the refusal; of a route the number of its legs and a line for each leg.
+// The unstarred trial runs of document 01 and document 02's of a pattern keyed twice, of routes and of totals, through the public calls: a line for
+// each, with 0 if it is accepted or for a no, 100 for a yes, or the number of the refusal; of a route the number of its legs and a line for each leg;
+// of a record its places, and a line for k and for each total.
 use model::Answer;
+use model::MOST_LABEL;
 use model::QueryReply;
 use model::RouteReply;
+use store::Changed;
 use store::Header;
 
 // "Layout A is the card above."
@@ -30,21 +33,22 @@ fn say(text: &[u8], number: u32) {
 }
 
 // Reads card A into so many leg and index slots.
-fn read_a(edges: &mut [u32], index: &mut [u64]) -> u32 {
+fn card_a(edges: &mut [u32], index: &mut [u64]) -> Changed {
     let mut work = [0u64; 4104];
     let card = CARD_A;
-    let changed = store::read_card(&card, edges, index, &mut work);
+    store::read_card(&card, edges, index, &mut work)
+}
+
+fn read_a(edges: &mut [u32], index: &mut [u64]) -> u32 {
+    let changed = card_a(edges, index);
     let answer = changed.answer;
     answer_number(answer)
 }
 
-// Layout A from its card: its record, with leg and index memory filled.
+// Layout A from its card: the record handed back, with leg and index memory filled.
 fn layout_a(edges: &mut [u32], index: &mut [u64]) -> Header {
-    read_a(edges, index);
-    Header {
-        vertices: 3,
-        longest: 2,
-    }
+    let changed = card_a(edges, index);
+    changed.header
 }
 
 fn open(vertices: u32, longest: u32) -> u32 {
@@ -53,6 +57,7 @@ fn open(vertices: u32, longest: u32) -> u32 {
     let header = Header {
         vertices: vertices,
         longest: longest,
+        totals: [0; MOST_LABEL],
     };
     let changed = header.open(&mut edges, &mut index);
     let answer = changed.answer;
@@ -77,6 +82,24 @@ fn ask_a(start: u32, destination: u32, pattern: &[u8]) -> u32 {
     reply_number(reply)
 }
 
+// The question 0 to 1 by label 3 on layout A, where the record gives label 3 that total. Index memory is damaged: an entry stands behind a zero.
+fn ask_damaged_a(total: u32) -> u32 {
+    let mut edges = [0u32; 3];
+    let mut index = [0u64; 5];
+    let mut work = [0u64; 4096];
+    let header = layout_a(&mut edges, &mut index);
+    let mut totals = header.totals;
+    totals[2] = total;
+    let told = Header {
+        vertices: header.vertices,
+        longest: header.longest,
+        totals: totals,
+    };
+    index[0] = 0;
+    let reply = store::query(told, 0, 1, b"\x03", &edges, &index, &mut work);
+    reply_number(reply)
+}
+
 // A question, 0 to 1, with the single leg 0-1-1.
 fn ask_one_leg(pattern: &[u8]) -> u32 {
     let mut edges = [0u32; 1];
@@ -85,6 +108,7 @@ fn ask_one_leg(pattern: &[u8]) -> u32 {
     let header = Header {
         vertices: 2,
         longest: 2,
+        totals: [0; MOST_LABEL],
     };
     let laid = header.insert(0, 1, 1, &mut edges, &mut index, &mut work);
     let reply = store::query(laid.header, 0, 1, pattern, &edges, &index, &mut work);
@@ -115,22 +139,8 @@ fn lay_in_a(from: u32, label: u32, to: u32) -> u32 {
     answer_number(answer)
 }
 
-fn main() {
-    let mut edges = [0u32; 3];
-    let mut five = [0u64; 5];
-    let mut four = [0u64; 4];
-    say(b"card A, 5 index slots: ", read_a(&mut edges, &mut five));
-    say(b"card A, 4 index slots: ", read_a(&mut edges, &mut four));
-    say(b"256 places: ", open(256, 4));
-    say(b"257 places: ", open(257, 4));
-    say(b"k 4: ", open(1, 4));
-    say(b"k 5: ", open(1, 5));
-    say(b"A, 0 to 2 by 1: ", ask_a(0, 2, b"\x01"));
-    say(b"A, 0 to 3 by 1: ", ask_a(0, 3, b"\x01"));
-    say(b"A, 0 to 0 by 1 2 1: ", ask_a(0, 0, b"\x01\x02\x01"));
-    say(b"laying 0-1-1 in A: ", lay_in_a(0, 1, 1));
-    say(b"leg 0-1-1, 0 to 1 by 1 1: ", ask_one_leg(b"\x01\x01"));
-    say(b"leg 0-1-1, 0 to 1 by 1: ", ask_one_leg(b"\x01"));
+// The routes of document 02, Three.
+fn say_routes() {
     let mut walk = [0u32; 2];
     say(
         b"route in A, 0 to 0 by 1 2: ",
@@ -152,5 +162,49 @@ fn main() {
     say(
         b"route in A, 0 to 0 by 1 2, one slot: ",
         light_a(0, 0, b"\x01\x02", &mut short),
+    );
+}
+
+// The record of layout A: "The record gains eight totals" (document 02, Four).
+fn say_record_a() {
+    let mut edges = [0u32; 3];
+    let mut index = [0u64; 5];
+    let header = layout_a(&mut edges, &mut index);
+    let totals = header.totals;
+    say(b"record of A, places: ", header.vertices);
+    say(b"  k ", header.longest);
+    say(b"  label 1 ", totals[0]);
+    say(b"  label 2 ", totals[1]);
+    say(b"  label 3 ", totals[2]);
+    say(b"  label 4 ", totals[3]);
+    say(b"  label 5 ", totals[4]);
+    say(b"  label 6 ", totals[5]);
+    say(b"  label 7 ", totals[6]);
+    say(b"  label 8 ", totals[7]);
+}
+
+fn main() {
+    let mut edges = [0u32; 3];
+    let mut five = [0u64; 5];
+    let mut four = [0u64; 4];
+    say(b"card A, 5 index slots: ", read_a(&mut edges, &mut five));
+    say(b"card A, 4 index slots: ", read_a(&mut edges, &mut four));
+    say(b"256 places: ", open(256, 4));
+    say(b"257 places: ", open(257, 4));
+    say(b"k 4: ", open(1, 4));
+    say(b"k 5: ", open(1, 5));
+    say(b"A, 0 to 2 by 1: ", ask_a(0, 2, b"\x01"));
+    say(b"A, 0 to 3 by 1: ", ask_a(0, 3, b"\x01"));
+    say(b"A, 0 to 0 by 1 2 1: ", ask_a(0, 0, b"\x01\x02\x01"));
+    say(b"laying 0-1-1 in A: ", lay_in_a(0, 1, 1));
+    say(b"leg 0-1-1, 0 to 1 by 1 1: ", ask_one_leg(b"\x01\x01"));
+    say(b"leg 0-1-1, 0 to 1 by 1: ", ask_one_leg(b"\x01"));
+    say_routes();
+    say_record_a();
+    say(b"A, 0 to 1 by 3: ", ask_a(0, 1, b"\x03"));
+    say(b"A, 0 to 1 by 3, damaged index: ", ask_damaged_a(0));
+    say(
+        b"A, 0 to 1 by 3, damaged index, total 1 told: ",
+        ask_damaged_a(1),
     );
 }

@@ -1,7 +1,7 @@
 -- The worked list, by computation; the ledger's part by demand 3.
 use mathlib.Core.Path.{refl, sym, ap, _∙_}
 use Rattle.model.specs.Lists.{Bytes, any?, keep, from}
-use Rattle.model.specs.Edges.{standing}
+use Rattle.model.specs.Edges.{standing, totalOf, totalsOf}
 use Rattle.model.specs.Patterns.{times, codeFrom}
 use Rattle.model.specs.Order.{weight, rank}
 use Rattle.model.specs.Computed.Lists.{all?, spread}
@@ -12,8 +12,8 @@ use Rattle.model.specs.Computed.Levels.{states, leads?, led?, grow, stage, repl
 use Rattle.model.specs.Computed.Entries.{stop?, allStops, earliest?, out?, in?, ofHub, ofOwner, ofSide, entries, determined}
 use Rattle.model.proofs.Tests.{test-all, test-lt}
 use Rattle.calls.specs.Checks.{firstRefusal}
-use Rattle.calls.specs.Change.{settle, openRefusal, openCall, insertRefusal, insertCall}
-use Rattle.calls.specs.Card.{edgesOf, risingTriples?, cardEdges?, readRefusal, readCall}
+use Rattle.calls.specs.Change.{settle, openRefusal, openChange, openCall, insertRefusal, insertChange, insertCall}
+use Rattle.calls.specs.Card.{edgesOf, risingTriples?, cardEdges?, readRefusal, readChange, readCall}
 use Rattle.demands.specs.Ledger.{openingNumber, Account}
 use Rattle.demands.specs.Run.Station.{run}
 use Rattle.demands.specs.Run.Demand3.{Demand3}
@@ -32,7 +32,7 @@ unfolding openingNumber
 accounted = demand3 garbage _ _ by-opening refl
 
 pub example : Example bytesA
-unfolding A slotsA cardA run openCall openRefusal insertCall insertRefusal any? all? keep from spread edge? zeros? risingEdges? edgeMemory? standing insertEdge times keyed? repeatFrom minRepeat own? codeFrom words keyedPatterns patterns weight insertByWeight byWeight counted rank states leads? led? grow stage replyFrom levelReply runs? stop? allStops earliest? out? in? ofHub ofOwner ofSide entries determined firstRefusal settle edgesOf risingTriples? cardEdges? readRefusal readCall
+unfolding A slotsA cardA run totalOf totalsOf openRefusal openChange openCall insertRefusal insertChange insertCall any? all? keep from spread edge? zeros? risingEdges? edgeMemory? standing insertEdge times keyed? repeatFrom minRepeat own? codeFrom words keyedPatterns patterns weight insertByWeight byWeight counted rank states leads? led? grow stage replyFrom levelReply runs? stop? allStops earliest? out? in? ofHub ofOwner ofSide entries determined firstRefusal settle edgesOf risingTriples? cardEdges? readRefusal readChange readCall
 example =
     record {
       replies = refl;

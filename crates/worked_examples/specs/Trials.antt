@@ -1,12 +1,12 @@
--- The starred trial runs of document 01, layout A's slots, and what document 02 says of patterns keyed twice and of routes, as one table of cases,
--- put to the calls' definitions.
+-- The starred trial runs of document 01, layout A's slots, and what document 02 says of patterns keyed twice, of routes and of totals, as one table of
+-- cases, put to the calls' definitions.
 use mathlib.Core.Bool.{Bool, true, false, not, _&&_}
 use mathlib.Core.List.{List, [], _∷_}
 use Prim.Native.Nat.{ℕ, _+_}
 use lib.Dec.{eqb}
 use lib.ListN.{length, replicate}
 use Rattle.model.specs.Limits.{leastWork, enoughLevels}
-use Rattle.model.specs.Edges.{edgeNumber, standing}
+use Rattle.model.specs.Edges.{edgeNumber, standing, totalsOf}
 use Rattle.model.specs.Query.{Answered, Yes as AnsweredYes, No as AnsweredNo, Refused as AnsweredRefused}
 use Rattle.model.specs.Routes.{Routed, Yes as RoutedYes, No as RoutedNo, Refused as RoutedRefused}
 use Rattle.model.specs.States.{Reply, Yes, No, Spent, Refused}
@@ -14,7 +14,7 @@ use Rattle.model.specs.Computed.Lists.{same?}
 use Rattle.model.specs.Computed.Edges.{removeEdge}
 use Rattle.model.specs.Computed.Patterns.{minRepeat, timesWritten}
 use Rattle.model.specs.Computed.Entries.{determined}
-use Rattle.calls.specs.Call.{Header, Memory, lent, lentOut, Outcome, Returned}
+use Rattle.calls.specs.Call.{Size, Header, Memory, lent, lentOut, Outcome, Returned}
 use Rattle.calls.specs.Search.{searchCall}
 use Rattle.calls.specs.Route.{routeCall}
 use Rattle.calls.specs.Query.{queryCall}
@@ -34,6 +34,10 @@ A = record { vertices = 3; longest = 2; edges = 257 ∷ 4354 ∷ 4608 ∷ [] }
 -- "The slots are": A's index memory, of five slots
 unfoldable pub slotsA : List ℕ
 slotsA = 18 ∷ 65537 ∷ 16842785 ∷ 4295032834 ∷ 4328587265 ∷ []
+
+-- that memory damaged: its first two slots swapped, so that it does not rise
+unfoldable pub damagedA : List ℕ
+damagedA = 65537 ∷ 18 ∷ 16842785 ∷ 4295032834 ∷ 4328587265 ∷ []
 
 -- "Card, in hexadecimal: 50 52 43 00 01 02 02 00 03 00 01 01 01 01 02 01 02 00"
 unfoldable pub cardA : List ℕ
@@ -88,8 +92,10 @@ pub data Case : Type 0 where
   written : (pattern : List ℕ) (expected : ℕ) → Case
   -- a plain check on a layout, from start to destination by a pattern with an allowance, and its reply
   searches : (y : TrialLayout) (start destination : ℕ) (pattern : List ℕ) (limit : ℕ) (expected : Reply) → Case
-  -- a question on a layout with its edge memory and an index memory, from start to destination by a pattern, and whether it is yes
+  -- a question on a layout with its record, its edge memory and an index memory, from start to destination by a pattern, and whether it is yes
   queries : (y : TrialLayout) (index : List ℕ) (start destination : ℕ) (pattern : List ℕ) (expected : Bool) → Case
+  -- the same with a record that has those totals, and the number of the refusal
+  refuses : (y : TrialLayout) (totals index : List ℕ) (start destination : ℕ) (pattern : List ℕ) (number : ℕ) → Case
   -- a route on a layout, from start to destination by a pattern, with walk memory of that content; its reply, and what walk memory holds then
   routes : (y : TrialLayout) (start destination : ℕ) (pattern walk : List ℕ) (expected : Routed) (after : List ℕ) → Case
   -- a layout, and the entries that its edges determine
@@ -98,6 +104,8 @@ pub data Case : Type 0 where
   counts : (y : TrialLayout) (expected : ℕ) → Case
   -- a card read into so many edge slots and index slots, and the number and edge and index memory that it leaves
   reads : (card : List ℕ) (slots room number : ℕ) (edges index : List ℕ) → Case
+  -- a card read likewise, and the record that it hands back: vertices, k and totals
+  hands : (card : List ℕ) (slots room vertices longest : ℕ) (totals : List ℕ) → Case
   -- an edge removed (lifted) from a layout with so many index slots, and its number
   removes : (y : TrialLayout) (room from label to number : ℕ) → Case
 
@@ -142,6 +150,10 @@ trials =
     ∷ routes twoWays 0 3 (1 ∷ []) (7 ∷ 7 ∷ []) (RoutedYes 2) (257 ∷ 4355 ∷ [])
     ∷ routes oneLeg 0 1 (1 ∷ 1 ∷ []) (7 ∷ 7 ∷ []) RoutedNo (7 ∷ 7 ∷ [])
     ∷ routes loopTwo 0 0 (1 ∷ 1 ∷ []) (7 ∷ 7 ∷ []) (RoutedYes 2) (256 ∷ 256 ∷ [])
+    ∷ hands cardA 3 5 3 2 (2 ∷ 1 ∷ 0 ∷ 0 ∷ 0 ∷ 0 ∷ 0 ∷ 0 ∷ [])
+    ∷ queries A slotsA 0 1 (3 ∷ []) false
+    ∷ queries A damagedA 0 1 (3 ∷ []) false
+    ∷ refuses A (2 ∷ 1 ∷ 1 ∷ 0 ∷ 0 ∷ 0 ∷ 0 ∷ 0 ∷ []) damagedA 0 1 (3 ∷ []) 12
     ∷ []
 
 -- the two replies are the same
@@ -180,16 +192,34 @@ sameAnswer? AnsweredYes expected = expected
 sameAnswer? AnsweredNo expected = not expected
 sameAnswer? (AnsweredRefused n) expected = false
 
+-- it is a refusal with that number
+unfoldable pub refused? : Answered → ℕ → Bool
+refused? AnsweredYes number = false
+refused? AnsweredNo number = false
+refused? (AnsweredRefused n) number = eqb n number
+
 -- edge, index and work memory: the edges given, so many index slots, and the least work memory that a build may have
 unfoldable pub buildLent : List ℕ → ℕ → Memory
 buildLent edges room = lent edges (replicate room 0) (replicate (leastWork + room) 0)
 
+abbrev pub trialSize : TrialLayout → Size
+trialSize y = record { vertices = y .vertices; longest = y .longest }
+
+-- the record as a change would leave it, and one with other totals
 abbrev pub trialHeader : TrialLayout → Header
-trialHeader y = record { vertices = y .vertices; longest = y .longest }
+trialHeader y = record { size = trialSize y; totals = totalsOf (standing (y .edges)) }
+
+abbrev pub withTotals : TrialLayout → List ℕ → Header
+withTotals y totals = record { size = trialSize y; totals = totals }
 
 -- a change has that number, and leaves that edge and index memory
 unfoldable pub leaves? : Outcome Returned → ℕ → List ℕ → List ℕ → Bool
 leaves? c number edges index = eqb (c .reply .answer) number && (same? (c .memory .edges) edges && same? (c .memory .index) index)
+
+-- a change hands back that record
+unfoldable pub handsBack? : Outcome Returned → ℕ → ℕ → List ℕ → Bool
+handsBack? c vertices longest totals =
+    eqb (c .reply .header .size .vertices) vertices && (eqb (c .reply .header .size .longest) longest && same? (c .reply .header .totals) totals)
 
 -- a route's reply, and walk memory afterwards; work memory is left zero
 unfoldable pub lights? : Outcome Routed → Routed → List ℕ → Bool
@@ -201,12 +231,16 @@ unfoldable pub holds? : Case → Bool
 holds? (repeats pattern expected) = same? (minRepeat pattern) expected
 holds? (written pattern expected) = eqb (timesWritten pattern) expected
 holds? (searches y s t pattern limit expected) =
-    sameReply? (searchCall (trialHeader y) s t pattern limit (lent (y .edges) [] (replicate leastWork 0)) .reply) expected
+    sameReply? (searchCall (trialSize y) s t pattern limit (lent (y .edges) [] (replicate leastWork 0)) .reply) expected
 holds? (queries y index s t pattern expected) = sameAnswer? (queryCall (trialHeader y) s t pattern (lent (y .edges) index (replicate leastWork 0)) .reply) expected
+holds? (refuses y totals index s t pattern number) =
+    refused? (queryCall (withTotals y totals) s t pattern (lent (y .edges) index (replicate leastWork 0)) .reply) number
 holds? (routes y s t pattern walk expected after) =
-    lights? (routeCall (trialHeader y) s t pattern (lentOut (y .edges) (replicate leastWork 7) walk)) expected after
+    lights? (routeCall (trialSize y) s t pattern (lentOut (y .edges) (replicate leastWork 7) walk)) expected after
 holds? (indexed y expected) = same? (entriesOf y) expected
 holds? (counts y expected) = eqb (length (entriesOf y)) expected
 holds? (reads card slots room number edges index) = leaves? (readCall card (buildLent (replicate slots 0) room)) number edges index
+holds? (hands card slots room vertices longest totals) =
+    handsBack? (readCall card (buildLent (replicate slots 0) room)) vertices longest totals
 holds? (removes y room from label to number) =
     eqb (removeCall (trialHeader y) from label to (buildLent (y .edges) room) .reply .answer) number

@@ -4,7 +4,7 @@ use native.Mathlib.Omega.{arith}
 use borrow.Author.Needs.{needs}
 use Rattle.model.specs.Limits.{headBytes}
 use Rattle.model.proofs.Lists.{part-all}
-use Rattle.calls.specs.Card.{headerOf, risingTriples?}
+use Rattle.calls.specs.Card.{sizeOf, risingTriples?}
 use Rattle.calls.proofs.Card.{card-edges-long, card-edges-body}
 use Rattle.card.proofs.has_edges.Statement.{statement}
 use Rattle.card.proofs.has_edges.Tie as tie
@@ -23,7 +23,7 @@ returns-2 c =
     let whole = c .before .before .before in
     let card = whole .before .before .before .args .card .now in
     let size = rw (whole .before .word .ensures) at (whole .if1 .left) in
-    c .are-rising .ensures ∙ ap (risingTriples? (headerOf card .vertices) 0) (part-all card headBytes) ∙ sym (card-edges-body card size)
+    c .are-rising .ensures ∙ ap (risingTriples? (sizeOf card .vertices) 0) (part-all card headBytes) ∙ sym (card-edges-body card size)
 
 pub has-edges-spec : {M : Type 1} → statement M
 has-edges-spec =

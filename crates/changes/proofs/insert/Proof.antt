@@ -8,7 +8,7 @@ use lib.ListN.{length}
 use Rattle.model.specs.Lists.{filled}
 use Rattle.model.specs.Edges.{edgeNumber, standing}
 use Rattle.model.specs.Computed.Edges.{insertEdge}
-use Rattle.calls.specs.Call.{Header, Memory, lent}
+use Rattle.calls.specs.Call.{Size, Memory, lent}
 use Rattle.named.specs.Named.{Places}
 use Rattle.named.proofs.Naming.{numbered}
 use Rattle.changes.proofs.Trying.{Tried, save-room, settleable, settled}
@@ -19,7 +19,7 @@ use Rattle.changes.proofs.insert.Tie as tie
 abbrev start : tie.After-known-told2 → tie.Start
 start c = c .before .before .before .before .before .before .before .before .before .before
 
-abbrev header : tie.After-known-told2 → Header
+abbrev header : tie.After-known-told2 → Size
 header c = record { vertices = start c .args .vertices; longest = start c .args .longest }
 
 abbrev memory : tie.After-known-told2 → Memory
@@ -75,7 +75,7 @@ returns-2 c =
     let settle = c .before .before .before .before .before .before in
     let k = settle .before .before .before .before in
     let p = passed (checked k) in
-    insert-leaves p (settled (insert-wanted p) (tried k) (header (checked k)) refl (settle .settle .ensures))
+    insert-leaves p (settled (insert-wanted p) (tried k) refl (settle .settle .ensures))
 
 pub insert-spec : {M : Type 1} → statement M
 insert-spec =

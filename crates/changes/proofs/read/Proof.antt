@@ -1,17 +1,14 @@
 -- `changes::read` meets its contract: a refusal leaves memory alone; else edge memory is saved, filled from the card, and settled.
-use mathlib.Core.Path.{refl, ap}
+use mathlib.Core.Path.{refl, sym}
 use mathlib.Core.List.{List}
 use Prim.Native.Nat.{ℕ}
 use native.Mathlib.Omega.{arith}
 use borrow.Author.Needs.{needs}
 use lib.ListN.{drop}
 use Rattle.model.specs.Limits.{headBytes}
-use Rattle.model.specs.Replies.{answerOf}
-use Rattle.model.specs.declared.Answer.the-variants.{Accepted, Refused}
-use Rattle.calls.specs.Call.{Header, Memory, lent, Meets, noRecord}
-use Rattle.calls.specs.Change.{answers, settle}
+use Rattle.model.proofs.Replies.{number-some}
+use Rattle.calls.specs.Call.{Size, Memory, lent}
 use Rattle.calls.specs.Card.{edgesOf}
-use Rattle.calls.proofs.Calls.{meets-as}
 use Rattle.changes.specs.Changes.{Reads}
 use Rattle.changes.proofs.Trying.{Wanted, Tried, save-room, settleable, settled}
 use Rattle.changes.proofs.Reading.{read-fillable, read-wanted, read-leaves, refused-leaves}
@@ -21,7 +18,7 @@ use Rattle.changes.proofs.read.Tie as tie
 abbrev start : tie.After-known-told2 → tie.Start
 start c = c .before .before .before .before .before .before .before .before .before .before .before
 
-abbrev header : tie.After-known-told2 → Header
+abbrev header : tie.After-known-told2 → Size
 header c = record { vertices = c .before .layout2 .given .0 .0; longest = c .before .layout2 .given .0 .1 .0 }
 
 abbrev memory : tie.After-known-told2 → Memory
@@ -55,11 +52,6 @@ tried c =
 abbrev filled : tie.After-settle → tie.After-slice-known5
 filled c = c .before .before .before .before
 
-leaves : (c : tie.After-settle)
-    → Meets (answers (settle noRecord (header (checked (filled c))) (cardEdges (checked (filled c))) (memory (checked (filled c))))) (answerOf (c .settle .result))
-    (lent (c .settle .last .1 .1 .1 .0) (c .settle .last .1 .1 .1 .1 .0) (c .settle .last .1 .1 .1 .1 .1 .0))
-leaves c = settled (wanted (checked (filled c))) (tried (filled c)) noRecord refl (c .settle .ensures)
-
 save-requires : tie.Need-save-requires
 save-requires c κs = save-room (wanted (c .before .before))
 
@@ -69,22 +61,20 @@ fill-requires c κs = read-fillable (passed (c .before .before .before .before .
 settle-requires : tie.Need-settle-requires
 settle-requires c κs = settleable (wanted (checked (c .before .before .before))) (tried (c .before .before .before))
 
+-- refused by the checks
 returns : tie.Need-returns
 returns c =
-    let k = c .before .before .before .before .before .before .before .before .before in
-    read-leaves (passed (checked (filled k))) (Refused (c .before .answer .given .0 .0)) (meets-as (ap answerOf (c .before .answer .given .1)) (leaves k))
-
-enum-told : tie.Need-enum-told
-enum-told c = search needs
+    let r = c .before .layout .given .0 .0 in
+    record {
+      meets = refused-leaves _ _ r (rw (c .before .layout .given .1) at (c .before .before .before .check-read .ensures));
+      size = λ e. absurd (omega (arith, e, number-some r));
+    }
 
 returns-2 : tie.Need-returns-2
 returns-2 c =
-    refused-leaves _ _ (c .before .layout .given .0 .0) (rw (c .before .layout .given .1) at (c .before .before .before .check-read .ensures))
-
-returns-3 : tie.Need-returns-3
-returns-3 c =
-    let k = c .before .before .before .before .before .before .before .before in
-    read-leaves (passed (checked (filled k))) Accepted (meets-as (ap answerOf (c .enum-told .given .1)) (leaves k))
+    let k = c .before .before .before .before .before .before in
+    let p = passed (checked (filled k)) in
+    record { meets = read-leaves p (settled (wanted (checked (filled k))) (tried (filled k)) refl (k .settle .ensures)); size = λ _. sym (p .header) }
 
 pub read-spec : {M : Type 1} → statement M
 read-spec =
@@ -99,14 +89,8 @@ read-spec =
     (λ c. search needs)
     (λ c. search needs)
     (λ c. search needs)
-    (λ c. search needs)
     returns
-    enum-told
     (λ c. search needs)
     (λ c. search needs)
     (λ c. search needs)
-    returns-2
-    (λ c. search needs)
-    (λ c. search needs)
-    (λ c. search needs)
-    returns-3)
+    returns-2)

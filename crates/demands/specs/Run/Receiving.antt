@@ -9,10 +9,10 @@ use Rattle.model.specs.Edges.{fromOf, labelOf, toOf}
 use Rattle.demands.specs.Ledger.{Book, opening, insertion, card, bookEntries, cardBook, LedgerReply}
 use Rattle.demands.specs.Run.Station.{Call, Station, changeOn, after, run}
 
--- the calls by which a fresh layout receives edges: an opening, and an insertion of each, with work memory of its own
-abbrev pub receiving : Book → (ℕ → List ℕ) → List Call
-receiving b works =
-    record { given = opening (b .vertices) (b .longest); work = [] }
+-- the calls by which a fresh layout receives edges: an opening, whatever totals its record has, and an insertion of each, with work memory of its own
+abbrev pub receiving : Book → (totals : List ℕ) → (ℕ → List ℕ) → List Call
+receiving b totals works =
+    record { given = opening (b .vertices) (b .longest) totals; work = [] }
     ∷ map (λ x. record { given = insertion (fromOf x) (labelOf x) (toOf x); work = works x }) (b .edges)
 
 -- index and work memory suffice at every step
@@ -27,6 +27,6 @@ pub record Receives (s : Station) (calls : List Call) (end : Station) : Type 0 w
 
 abbrev pub ReceivingSame : Type 0
 ReceivingSame =
-    (s : Station) (bytes : List ℕ) (small : Bytes bytes) (work : List ℕ) (works : ℕ → List ℕ) →
+    (s : Station) (bytes : List ℕ) (small : Bytes bytes) (work totals : List ℕ) (works : ℕ → List ℕ) →
     let c = changeOn s work (card bytes small) in
-    c .reply .answer ≡ 0 → Suffices (cardBook bytes) (length (s .index)) works → Receives s (receiving (cardBook bytes) works) (after s c)
+    c .reply .answer ≡ 0 → Suffices (cardBook bytes) (length (s .index)) works → Receives s (receiving (cardBook bytes) totals works) (after s c)

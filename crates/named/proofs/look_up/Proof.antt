@@ -3,7 +3,7 @@ use mathlib.Core.Path.{sym, ap, _∙_}
 use Prim.Native.Nat.{ℕ}
 use lib.ListN.{take}
 use Rattle.edges.specs.Memory.{findOf}
-use Rattle.calls.specs.Call.{Header, Memory, lent}
+use Rattle.calls.specs.Call.{Size, Memory, lent}
 use Rattle.named.specs.Named.{Passes, Finds}
 use Rattle.named.proofs.Naming.{numbered, searchable}
 use borrow.Author.Needs.{needs}
@@ -13,7 +13,7 @@ use Rattle.named.proofs.look_up.Tie as tie
 abbrev start : tie.After-known-told2 → tie.Start
 start c = c .before .before .before .before .before .before .before
 
-abbrev header : tie.After-known-told2 → Header
+abbrev header : tie.After-known-told2 → Size
 header c = record { vertices = start c .args .vertices; longest = start c .args .longest }
 
 abbrev memory : tie.After-known-told2 → Memory

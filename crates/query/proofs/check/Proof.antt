@@ -4,8 +4,8 @@ use borrow.Author.Needs.{needs}
 use Rattle.model.specs.Replies.{answerOf}
 use Rattle.model.proofs.Replies.{number-some}
 use Rattle.calls.specs.Checks.{headerRefusal}
+use Rattle.calls.specs.Query.{askRefusal}
 use Rattle.calls.proofs.Checks.{none, pass, stop, first-is, header-stop, header-pass}
-use Rattle.query.specs.Call.{earlierRefusal}
 use Rattle.query.proofs.check.Statement.{statement}
 use Rattle.query.proofs.check.Tie as tie
 
@@ -17,26 +17,26 @@ header : (c : tie.After-enum-told) → headerRefusal (start c .args .vertices) (
 header c = sym (c .before .before .check-header .ensures) ∙ ap answerOf (c .enum-told .given .1)
 
 returns : tie.Need-returns
-unfolding earlierRefusal
+unfolding askRefusal
 returns c = sym (first-is (header-stop _ _ (sym (c .before .before .before .check-header .ensures) ∙ ap answerOf (c .before .header .given .1)) (number-some (c .before .header .given .0 .0))))
 
 enum-told : tie.Need-enum-told
 enum-told c = search needs
 
 returns-2 : tie.Need-returns-2
-unfolding earlierRefusal
+unfolding askRefusal
 returns-2 c =
     let ends = sym (c .before .before .before .are-vertices .ensures) ∙ c .before .before .if1 .taken in
     sym (first-is (header-pass _ _ (header (c .before .before .before .before)) (pass ends (pass (sym (c .before .is-keyed .ensures) ∙ c .if2 .taken) none))))
 
 returns-3 : tie.Need-returns-3
-unfolding earlierRefusal
+unfolding askRefusal
 returns-3 c =
     let ends = sym (c .before .before .before .are-vertices .ensures) ∙ c .before .before .if1 .taken in
     sym (first-is (header-pass _ _ (header (c .before .before .before .before)) (pass ends (stop (sym (c .before .is-keyed .ensures) ∙ c .if2 .left)))))
 
 returns-4 : tie.Need-returns-4
-unfolding earlierRefusal
+unfolding askRefusal
 returns-4 c = sym (first-is (header-pass _ _ (header (c .before .before)) (stop (sym (c .before .are-vertices .ensures) ∙ c .if1 .left))))
 
 pub check-spec : {M : Type 1} → statement M

@@ -1,6 +1,5 @@
 -- `rlc_c::rlc_open` meets its contract.
-use Rattle.calls.proofs.Change.{open-hands}
-use Rattle.rlc_c.proofs.Handing.{unchanged, changed}
+use Rattle.rlc_c.proofs.Handing.{unchanged, changed, open-given}
 use borrow.Author.Needs.{needs}
 use Rattle.rlc_c.proofs.rlc_open.Statement.{statement}
 use Rattle.rlc_c.proofs.rlc_open.Tie as tie
@@ -13,7 +12,7 @@ returns-2 c =
     let back = c .before .before in
     let call = back .before .before .before .before .before .before in
     let read = call .before .before .before in
-    changed (read .before .before .if1 .left) (rw (read .header-in .ensures) at (call .«open» .ensures)) (open-hands _ _) (back .hand-back .ensures)
+    changed (read .before .before .if1 .left) (rw (read .header-in .ensures) at (call .«open» .ensures)) (open-given _ _) (back .hand-back .ensures)
 
 pub rlc-open-spec : {M : Type 1} → statement M
 rlc-open-spec =

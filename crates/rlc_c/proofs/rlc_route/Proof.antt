@@ -3,7 +3,7 @@ use mathlib.Core.Path.{sym, ap, _∙_}
 use Prim.Native.Nat.{ℕ, _*_}
 use Rattle.model.specs.Replies.{routedOf}
 use Rattle.rlc_c.specs.Interface.{replyUnit, routedInC}
-use Rattle.rlc_c.proofs.Handing.{other, two, untouched, called}
+use Rattle.rlc_c.proofs.Handing.{other, ten, size-is, untouched, called}
 use borrow.Author.Needs.{needs}
 use Rattle.rlc_c.proofs.rlc_route.Statement.{statement}
 use Rattle.rlc_c.proofs.rlc_route.Tie as tie
@@ -18,19 +18,19 @@ returns-2 : tie.Need-returns-2
 returns-2 c =
     let call = c .before .before .before .before .before .before .before in
     let read = call .before .before .before in
-    rw (two (start (read .before .before) .args .words .now) (read .before .if1 .left)) (called routedInC (rw (read .header-in .ensures) at (call .route .ensures)) (ap routedInC (ap routedOf (sym (c .before .reply .given .1)))))
+    rw (ten (start (read .before .before) .args .words .now) (read .before .if1 .left)) (called routedInC (rw (size-is (read .header-in .ensures)) at (call .route .ensures)) (ap routedInC (ap routedOf (sym (c .before .reply .given .1)))))
 
 returns-3 : tie.Need-returns-3
 returns-3 c =
     let call = c .before .before .before .before .before .before in
     let read = call .before .before .before in
-    rw (two (start (read .before .before) .args .words .now) (read .before .if1 .left)) (called routedInC (rw (read .header-in .ensures) at (call .route .ensures)) (ap routedInC (ap routedOf (sym (c .enum-told .given .1)))))
+    rw (ten (start (read .before .before) .args .words .now) (read .before .if1 .left)) (called routedInC (rw (size-is (read .header-in .ensures)) at (call .route .ensures)) (ap routedInC (ap routedOf (sym (c .enum-told .given .1)))))
 
 returns-4 : tie.Need-returns-4
 returns-4 c =
     let call = c .before .before .before .before .before .before .before .before in
     let read = call .before .before .before in
-    rw (two (start (read .before .before) .args .words .now) (read .before .if1 .left)) (called routedInC (rw (read .header-in .ensures) at (call .route .ensures)) (ap (λ (n : ℕ). n * replyUnit) (c .refusal-number .ensures) ∙ ap routedInC (ap routedOf (sym (c .before .before .reply2 .given .1)))))
+    rw (ten (start (read .before .before) .args .words .now) (read .before .if1 .left)) (called routedInC (rw (size-is (read .header-in .ensures)) at (call .route .ensures)) (ap (λ (n : ℕ). n * replyUnit) (c .refusal-number .ensures) ∙ ap routedInC (ap routedOf (sym (c .before .before .reply2 .given .1)))))
 
 pub rlc-route-spec : {M : Type 1} → statement M
 rlc-route-spec =

@@ -3,7 +3,7 @@ use mathlib.Core.Path.{sym, ap, _∙_}
 use Prim.Native.Nat.{ℕ, _*_}
 use Rattle.model.specs.Replies.{replyOf}
 use Rattle.rlc_c.specs.Interface.{replyUnit, repliedInC}
-use Rattle.rlc_c.proofs.Handing.{other, two, untouched, called}
+use Rattle.rlc_c.proofs.Handing.{other, ten, size-is, untouched, called}
 use borrow.Author.Needs.{needs}
 use Rattle.rlc_c.proofs.rlc_search.Statement.{statement}
 use Rattle.rlc_c.proofs.rlc_search.Tie as tie
@@ -15,25 +15,25 @@ returns-2 : tie.Need-returns-2
 returns-2 c =
     let call = c .before .before .before .before .before in
     let read = call .before .before in
-    rw (two (read .before .before .before .before .before .before .args .words .now) (read .before .if1 .left)) (called repliedInC (rw (read .header-in .ensures) at (call .level-search .ensures)) (ap repliedInC (ap replyOf (sym (c .before .reply .given .1)))))
+    rw (ten (read .before .before .before .before .before .before .args .words .now) (read .before .if1 .left)) (called repliedInC (rw (size-is (read .header-in .ensures)) at (call .level-search .ensures)) (ap repliedInC (ap replyOf (sym (c .before .reply .given .1)))))
 
 returns-3 : tie.Need-returns-3
 returns-3 c =
     let call = c .before .before .before .before .before in
     let read = call .before .before in
-    rw (two (read .before .before .before .before .before .before .args .words .now) (read .before .if1 .left)) (called repliedInC (rw (read .header-in .ensures) at (call .level-search .ensures)) (ap repliedInC (ap replyOf (sym (c .before .reply2 .given .1)))))
+    rw (ten (read .before .before .before .before .before .before .args .words .now) (read .before .if1 .left)) (called repliedInC (rw (size-is (read .header-in .ensures)) at (call .level-search .ensures)) (ap repliedInC (ap replyOf (sym (c .before .reply2 .given .1)))))
 
 returns-4 : tie.Need-returns-4
 returns-4 c =
     let call = c .before .before .before .before .before in
     let read = call .before .before in
-    rw (two (read .before .before .before .before .before .before .args .words .now) (read .before .if1 .left)) (called repliedInC (rw (read .header-in .ensures) at (call .level-search .ensures)) (ap repliedInC (ap replyOf (sym (c .before .reply3 .given .1)))))
+    rw (ten (read .before .before .before .before .before .before .args .words .now) (read .before .if1 .left)) (called repliedInC (rw (size-is (read .header-in .ensures)) at (call .level-search .ensures)) (ap repliedInC (ap replyOf (sym (c .before .reply3 .given .1)))))
 
 returns-5 : tie.Need-returns-5
 returns-5 c =
     let call = c .before .before .before .before .before .before in
     let read = call .before .before in
-    rw (two (read .before .before .before .before .before .before .args .words .now) (read .before .if1 .left)) (called repliedInC (rw (read .header-in .ensures) at (call .level-search .ensures)) (ap (λ (n : ℕ). n * replyUnit) (c .refusal-number .ensures) ∙ ap repliedInC (ap replyOf (sym (c .before .before .reply4 .given .1)))))
+    rw (ten (read .before .before .before .before .before .before .args .words .now) (read .before .if1 .left)) (called repliedInC (rw (size-is (read .header-in .ensures)) at (call .level-search .ensures)) (ap (λ (n : ℕ). n * replyUnit) (c .refusal-number .ensures) ∙ ap repliedInC (ap replyOf (sym (c .before .before .reply4 .given .1)))))
 
 pub rlc-search-spec : {M : Type 1} → statement M
 rlc-search-spec =

@@ -3,7 +3,7 @@ use mathlib.Core.Path.{sym, ap, _∙_}
 use Prim.Native.Nat.{ℕ, _*_}
 use Rattle.store.specs.Store.{wroteOf}
 use Rattle.rlc_c.specs.Interface.{replyUnit, wroteInC}
-use Rattle.rlc_c.proofs.Handing.{other, two, untouched, called}
+use Rattle.rlc_c.proofs.Handing.{other, ten, size-is, untouched, called}
 use borrow.Author.Needs.{needs}
 use Rattle.rlc_c.proofs.rlc_write_card.Statement.{statement}
 use Rattle.rlc_c.proofs.rlc_write_card.Tie as tie
@@ -15,13 +15,13 @@ returns-2 : tie.Need-returns-2
 returns-2 c =
     let call = c .before .before .before .before .before in
     let read = call .before .before in
-    rw (two (read .before .before .before .before .before .args .words .now) (read .before .if1 .left)) (called wroteInC (rw (read .header-in .ensures) at (call .write-card .ensures)) (ap wroteInC (ap wroteOf (sym (c .before .written .given .1)))))
+    rw (ten (read .before .before .before .before .before .args .words .now) (read .before .if1 .left)) (called wroteInC (rw (size-is (read .header-in .ensures)) at (call .write-card .ensures)) (ap wroteInC (ap wroteOf (sym (c .before .written .given .1)))))
 
 returns-3 : tie.Need-returns-3
 returns-3 c =
     let call = c .before .before .before .before .before .before in
     let read = call .before .before in
-    rw (two (read .before .before .before .before .before .args .words .now) (read .before .if1 .left)) (called wroteInC (rw (read .header-in .ensures) at (call .write-card .ensures)) (ap (λ (n : ℕ). n * replyUnit) (c .refusal-number .ensures) ∙ ap wroteInC (ap wroteOf (sym (c .before .before .written2 .given .1)))))
+    rw (ten (read .before .before .before .before .before .args .words .now) (read .before .if1 .left)) (called wroteInC (rw (size-is (read .header-in .ensures)) at (call .write-card .ensures)) (ap (λ (n : ℕ). n * replyUnit) (c .refusal-number .ensures) ∙ ap wroteInC (ap wroteOf (sym (c .before .before .written2 .given .1)))))
 
 pub rlc-write-card-spec : {M : Type 1} → statement M
 rlc-write-card-spec =

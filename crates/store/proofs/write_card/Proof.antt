@@ -15,7 +15,7 @@ start c = c .before .before .before .before .before .before .before
 
 -- all checks have passed
 passed : (c : tie.After-known-told2)
-    → WritePasses (numbers (start c .args .header)) (record { edges = start c .args .edges .now; index = []; work = []; output = start c .args .output .now })
+    → WritePasses (numbers (start c .args .header) .size) (record { edges = start c .args .edges .now; index = []; work = []; output = start c .args .output .now })
     (c .before .standing2 .given .0 .0)
 passed c = rw (c .before .standing2 .given .1) at (c .before .before .before .check-write .ensures)
 

@@ -1,23 +1,21 @@
--- `store::Header::insert` meets its contract: the insertion's, with the header as given.
+-- `store::Header::insert` meets its contract: the insertion's, with the header that is handed back.
+use mathlib.Core.Path.{sym, _∙_}
+use native.Mathlib.Omega.{arith}
 use borrow.Author.Needs.{needs}
-use Rattle.calls.proofs.Change.{with-header, insert-hands}
+use Rattle.calls.specs.Change.{insertCall}
+use Rattle.calls.proofs.Change.{handing-meets, insert-few}
 use Rattle.store.proofs.Header.insert.Statement.{statement}
 use Rattle.store.proofs.Header.insert.Tie as tie
 
-insert-requires : tie.Need-insert-requires
-insert-requires c κs = search needs
-
-same-length : tie.Need-same-length
-same-length c = search needs
-
-same-length-2 : tie.Need-same-length-2
-same-length-2 c = search needs
-
-same-length-3 : tie.Need-same-length-3
-same-length-3 c = search needs
+-- an accepted one was lent at most 1,024 edge slots
+hand-back-requires : tie.Need-hand-back-requires
+hand-back-requires c κs e =
+    let k = c .before .before .before .before .before .before .before in
+    omega (arith, insert-few _ _ _ _ _ (sym (k .insert .ensures .reply-is) ∙ e), c .before .before .before .before .before .before .edges .given)
 
 returns : tie.Need-returns
-returns c = with-header _ (insert-hands _ _ _ _ _) (c .before .before .before .before .before .before .insert .ensures)
+unfolding insertCall
+returns c = handing-meets _ _ (c .before .before .before .before .before .before .before .before .insert .ensures) (c .hand-back .ensures)
 
 pub insert-spec : {M : Type 1} → statement M
-insert-spec = tie.close (tie.spec insert-requires same-length same-length-2 same-length-3 returns)
+insert-spec = tie.close (tie.spec (λ c κs. search needs) hand-back-requires (λ c. search needs) (λ c. search needs) (λ c. search needs) returns)
