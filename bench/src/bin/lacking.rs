@@ -10,7 +10,7 @@ mod lent;
 #[allow(dead_code)]
 mod timing;
 
-use layouts::{Random, VERTICES};
+use layouts::Random;
 use lent::{draw, rlc_insert, rlc_remove, Lent};
 use timing::{heading_of, millis, print_times};
 
@@ -51,20 +51,20 @@ fn mean(lent: &mut Lent, questions: &[(u32, u32, Vec<u8>)], times: usize) -> f64
 }
 
 fn main() {
-    heading_of("lacking label", "ns", "rule", "none");
+    heading_of("lacking label", "ns", "index", "rule");
     for layout in &layouts::all() {
         for longest in [2, 4] {
             let mut lent = held(longest, &layout.edges);
             let mut random = Random(12);
             let questions: Vec<_> = (0..100).map(|_| draw_lacking(&mut random, &lent)).collect();
-            let (mut rule, mut none) = (Vec::new(), Vec::new());
+            let (mut index, mut rule) = (Vec::new(), Vec::new());
             for _ in 0..5 {
                 rule.push(mean(&mut lent, &questions, 1000));
                 lent.set_total(LACKING, 1);
-                none.push(mean(&mut lent, &questions, 1));
+                index.push(mean(&mut lent, &questions, 1));
                 lent.set_total(LACKING, 0);
             }
-            print_times(&format!("{} k {longest}", layout.name), rule, none, format!("{} entries, {VERTICES} vertices", lent.index.len()));
+            print_times(&format!("{} k {longest}", layout.name), index, rule, format!("{} entries", lent.index.len()));
         }
     }
 }

@@ -9,9 +9,9 @@ ghost use Prim.Native.Nat.{_/_, _≤_, _<_};
 ghost use lib.ListN.{length, take};
 ghost use Rattle.model.specs.Limits.{mostVertices, mostEdges, fromUnit, labelUnit};
 ghost use Rattle.model.specs.Lists.{Rising, filled};
-ghost use Rattle.model.specs.Edges.{edgeNumber, standing, totalsOf};
+ghost use Rattle.model.specs.Edges.{edgeNumber, labelOf, standing, totalsOf};
 ghost use Rattle.model.specs.Computed.Edges.{edge?, insertEdge, removeEdge};
-ghost use Rattle.edges.specs.Memory.{scanOf, findOf, Insertable, Removable};
+ghost use Rattle.edges.specs.Memory.{scanOf, findOf, Insertable, Removable, Tallies};
 ghost use Rattle.edges.specs.Slots.{Under, Skipped, Starts};
 
 const MOST_LABEL: u32 = model::MOST_LABEL as u32;
@@ -134,23 +134,45 @@ pub fn first_slots(vertices: u32, edges: &[u32]) -> [usize; MOST_VERTICES]
     slots
 }
 
-// How many of the standing edges have each label 1 to 8 (document 02, Four). Even and odd slots are counted apart, as equal labels in a row would
-// else wait for each other.
+fn label_of(x: u32) -> usize
+    ensures { λ r. ⌜ r ≡ labelOf x ⌝ }
+{
+    (x / LABEL_UNIT % LABELS) as usize
+}
+
+// Counts the labels of the standing edges, two edges at a time: those of even slots, and behind them those of odd slots, so that equal labels in a
+// row need not wait for each other.
+fn count_labels(edges: &[u32]) -> [u32; 2 * LABEL_FIELD]
+    requires { ⌜ length (now edges) ≤ mostEdges ⌝ }
+    ensures { λ r. ⌜ Tallies (now (edges .entry)) r ⌝ }
+{
+    let mut counts = [0u32; 2 * LABEL_FIELD];
+    let mut i = 0;
+    while i + 1 < edges.len() {
+        if edges[i + 1] == 0 {
+            break;
+        }
+        if edges[i] == 0 {
+            break;
+        }
+        counts[label_of(edges[i])] += 1;
+        counts[LABEL_FIELD + label_of(edges[i + 1])] += 1;
+        i += 2;
+    }
+    if i < edges.len() {
+        if edges[i] != 0 {
+            counts[label_of(edges[i])] += 1;
+        }
+    }
+    counts
+}
+
+// How many of the standing edges have each label 1 to 8 (document 02, Four).
 pub fn totals(edges: &[u32]) -> [u32; model::MOST_LABEL]
     requires { ⌜ length (now edges) ≤ mostEdges ⌝ }
     ensures { λ r. ⌜ r ≡ totalsOf (standing (now (edges .entry))) ⌝ }
 {
-    let mut counts = [0u32; 2 * LABEL_FIELD];
-    let mut i = 0;
-    while i < edges.len() {
-        let x = edges[i];
-        if x == 0 {
-            break;
-        }
-        let at = i % 2 * LABEL_FIELD + (x / LABEL_UNIT % LABELS) as usize;
-        counts[at] += 1;
-        i += 1;
-    }
+    let counts = count_labels(edges);
     [
         counts[1] + counts[17],
         counts[2] + counts[18],
