@@ -85,18 +85,19 @@ uint32_t rlc_insert(uint32_t *record, size_t record_n, uint32_t from, uint32_t l
 uint32_t rlc_remove(uint32_t *record, size_t record_n, uint32_t from, uint32_t label, uint32_t to, uint32_t *edges, size_t edges_n,
                     uint64_t *index, size_t index_n, uint64_t *work, size_t work_n);
 
-/* Asks whether a walk from start to destination runs the pattern. Refusals 1 2 10 11, then, unless a label of the
- * pattern has total 0 in the record, 12, and then, only for a pattern that repeats itself, 3 4. Returns 100 yes, 0 no,
- * else the refusal. What a query looks at depends on its pattern (rlc_times_written tells how often it was written):
+/* Asks whether a walk from start to destination runs the pattern. Refusals 1 2 10 11 come first. Returns 100 yes, 0 no,
+ * else the refusal. What else a query looks at, and is refused for, depends on the record's totals and on its pattern
+ * (rlc_times_written tells how often it was written):
  *
- * - With a label whose total in the record is 0: no. Edges, index and work are not looked at and stay as they are. On
- *   the record that the last accepted change left the reply is right. The other queries:
- * - Written once, as 1 or 1,2 or 1,2,1: the index replies. Edges and work are not looked at and stay as they are;
- *   both may have length 0. On the record and index memory that the last accepted change left the reply is right.
- * - Repeating itself, as 1,1 or 1,2,1,2: the index has no such pattern, so the call costs a search of the edges
- *   (as rlc_search does) after the check of index memory. It reads edge memory, and needs at least 4,096 numbers
- *   of work memory; unless the call is refused, all the work memory lent is zero afterwards. On the record, edge
- *   and index memory that the last accepted change left the reply is right. */
+ * - With a label whose total in the record is 0: no. Edges, index and work are not looked at and stay as they are; all
+ *   three may have length 0. On the record that the last accepted change left the reply is right.
+ * - Otherwise, written once, as 1 or 1,2 or 1,2,1: refusal 12, then the index replies. Edges and work are not looked at
+ *   and stay as they are; both may have length 0. On the record and index memory that the last accepted change left the
+ *   reply is right.
+ * - Otherwise, repeating itself, as 1,1 or 1,2,1,2: refusals 12 3 4. The index has no such pattern, so the call costs a
+ *   search of the edges (as rlc_search does) after the check of index memory. It reads edge memory, and needs at least
+ *   4,096 numbers of work memory; unless the call is refused, all the work memory lent is zero afterwards. On the
+ *   record, edge and index memory that the last accepted change left the reply is right. */
 uint32_t rlc_query(const uint32_t *record, size_t record_n, uint32_t start, uint32_t destination, const uint8_t *pattern, size_t pattern_n,
                    const uint32_t *edges, size_t edges_n, const uint64_t *index, size_t index_n, uint64_t *work, size_t work_n);
 

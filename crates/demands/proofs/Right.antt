@@ -71,12 +71,12 @@ module _ (g : Graph) (bounds : Bounds (g .vertices) (g .longest)) (slots room : 
   abbrev index : List ℕ
   index = filled room (determined g)
 
-  abbrev z : Size
-  z = record { vertices = g .vertices; longest = g .longest }
+  abbrev size : Size
+  size = record { vertices = g .vertices; longest = g .longest }
 
   -- "the record .. has those of its standing legs"
   abbrev h : Header
-  h = record { size = z; totals = totalsOf (g .edges) }
+  h = record { size = size; totals = totalsOf (g .edges) }
 
   small : Small g
   small = record { vertices-small = bounds .vertices-most; longest-small = bounds .longest-most }
@@ -96,7 +96,7 @@ module _ (g : Graph) (bounds : Bounds (g .vertices) (g .longest)) (slots room : 
     later = (3, once? l || edgeMemory? (g .vertices) other) ∷ (4, once? l || leb leastWork (length work)) ∷ []
 
     -- the record passes 1 and 2
-    after-header : {n : ℕ} → First ((10, ends? (g .vertices) s t) ∷ (11, keyed? (g .longest) l) ∷ []) n → askRefusal z s t l ≡ n
+    after-header : {n : ℕ} → First ((10, ends? (g .vertices) s t) ∷ (11, keyed? (g .longest) l) ∷ []) n → askRefusal size s t l ≡ n
     unfolding askRefusal
     after-header f = first-is (bounds-pass bounds f)
 
@@ -113,7 +113,7 @@ module _ (g : Graph) (bounds : Bounds (g .vertices) (g .longest)) (slots room : 
         -- ---- the full question
 
         -- index memory passes 12
-        after-index : {n : ℕ} → First later n → fullRefusal z s t l m ≡ n
+        after-index : {n : ℕ} → First later n → fullRefusal size s t l m ≡ n
         unfolding determined fullRefusal
         after-index f =
             first-is (bounds-pass bounds (pass (test-true (test-ends (g .vertices) s t) (hs, ht))
@@ -122,30 +122,30 @@ module _ (g : Graph) (bounds : Bounds (g .vertices) (g .longest)) (slots room : 
         own? : Tests (once? l) (MinRepeat l l)
         own? = test-once l (within bounds k)
 
-        full-once : MinRepeat l l → Judged g l s t (fullCall z s t l m .reply)
+        full-once : MinRepeat l l → Judged g l s t (fullCall size s t l m .reply)
         unfolding determined
         full-once own =
             let e : once? l ≡ true = test-true own? own in
             let none = after-index (pass (rw e refl) (pass (rw e refl) none)) in
             let q : Asked g l s t = record { from = hs; to = ht; pattern = record { keyed = k; own = own } } in
-            rw (once-is z s t l m none own) (judged _ (answer-right g (counted g) small room q))
+            rw (once-is size s t l m none own) (judged _ (answer-right g (counted g) small room q))
 
         module _ (more : ¬ MinRepeat l l) (here : other ≡ edges) where
           three : once? l || edgeMemory? (g .vertices) other ≡ true
           three = rw (test-false own? more, here) (memory-passes can)
 
-          full-searched : leastWork ≤ length work → Judged g l s t (fullCall z s t l m .reply)
+          full-searched : leastWork ≤ length work → Judged g l s t (fullCall size s t l m .reply)
           full-searched enough =
               let four : once? l || leb leastWork (length work) ≡ true = rw (test-false own? more) (test-true (test-le leastWork (length work)) enough) in
               let same : standing other ≡ g .edges = ap standing here ∙ stands can in
-              subst (λ (x : List ℕ). Judged (graphOf z x) l s t (fullCall z s t l m .reply)) same
-              (search-right z s t l m (after-index (pass three (pass four none))) more)
+              subst (λ (x : List ℕ). Judged (graphOf size x) l s t (fullCall size s t l m .reply)) same
+              (search-right size s t l m (after-index (pass three (pass four none))) more)
 
-          full-less : length work < leastWork → fullCall z s t l m .reply ≡ Refused 4
+          full-less : length work < leastWork → fullCall size s t l m .reply ≡ Refused 4
           full-less less =
               let four : once? l || leb leastWork (length work) ≡ false
               = rw (test-false own? more) (test-false (test-le leastWork (length work)) (λ z. omega (arith, z))) in
-              number-refuses z s t l m (after-index (pass three (stop four)))
+              number-refuses size s t l m (after-index (pass three (stop four)))
 
         -- ---- and the question, by the rule of totals
 
@@ -157,7 +157,7 @@ module _ (g : Graph) (bounds : Bounds (g .vertices) (g .longest)) (slots room : 
         lacking-no lacks m = rw (query-lacking h s t l m (ask-passes bounds hs ht k) (test-true lacks? lacks)) refl
 
         -- it is judged rightly where the full question is
-        as-full : Judged g l s t (fullCall z s t l m .reply) → Judged g l s t (queryCall h s t l m .reply)
+        as-full : Judged g l s t (fullCall size s t l m .reply) → Judged g l s t (queryCall h s t l m .reply)
         as-full j = elim (test-dec lacks?) [
           | yes lacks ↦ rw (lacking-no lacks m) (runs-not (none-runs k lacks))
           | no whole ↦ rw (query-full h s t l m (test-false lacks? whole)) j
@@ -167,13 +167,13 @@ module _ (g : Graph) (bounds : Bounds (g .vertices) (g .longest)) (slots room : 
         work-refused more here whole less = rw (query-full h s t l m (test-false lacks? whole)) (full-less more here less)
 
         -- and is the full reply, unless that is 4
-        full-same : other ≡ edges → fullCall z s t l m .reply ≢ Refused 4 → queryCall h s t l m .reply ≡ fullCall z s t l m .reply
+        full-same : other ≡ edges → fullCall size s t l m .reply ≢ Refused 4 → queryCall h s t l m .reply ≡ fullCall size s t l m .reply
         full-same here d = elim (test-dec lacks?) [
           | yes lacks ↦ lacking-no lacks m ∙ sym (not-judged (judged-here (test-dec own?)) (none-runs k lacks))
           | no whole ↦ ap (λ (c : Outcome Answered). c .reply) (query-full h s t l m (test-false lacks? whole))
         ]
           where
-            judged-here : Dec (MinRepeat l l) → Judged g l s t (fullCall z s t l m .reply)
+            judged-here : Dec (MinRepeat l l) → Judged g l s t (fullCall size s t l m .reply)
             judged-here (yes own) = full-once own
             judged-here (no more) = elim (decLt (length work) leastWork) [
               | yes less ↦ absurd (d (full-less more here less))
@@ -183,16 +183,16 @@ module _ (g : Graph) (bounds : Bounds (g .vertices) (g .longest)) (slots room : 
   -- ---- routes
 
   module _ (s t : ℕ) (l : List ℕ) (hs : s < g .vertices) (ht : t < g .vertices) (k : Keyed (g .longest) l) (walk work : List ℕ) (enough : leastWork ≤ length work) where
-    route-none : searchRefusal z s t l (lentOut edges work walk) ≡ 0
+    route-none : searchRefusal size s t l (lentOut edges work walk) ≡ 0
     unfolding searchRefusal
     route-none =
         first-is (bounds-pass bounds (pass (memory-passes can) (pass (test-true (test-le leastWork (length work)) enough)
         (pass (test-true (test-ends (g .vertices) s t) (hs, ht)) (pass (test-true (test-keyed (g .longest) l) k) none)))))
 
-    shown : let c = routeCall z s t l (lentOut edges work walk) in Lit g l s t walk (c .reply) (c .memory .output)
+    shown : let c = routeCall size s t l (lentOut edges work walk) in Lit g l s t walk (c .reply) (c .memory .output)
     shown =
-        let c = routeCall z s t l (lentOut edges work walk) in
-        subst (λ (x : List ℕ). Lit (graphOf z x) l s t walk (c .reply) (c .memory .output)) (stands can) (route-lit z s t l (lentOut edges work walk) route-none)
+        let c = routeCall size s t l (lentOut edges work walk) in
+        subst (λ (x : List ℕ). Lit (graphOf size x) l s t walk (c .reply) (c .memory .output)) (stands can) (route-lit size s t l (lentOut edges work walk) route-none)
 
     asked : Judged g l s t (queryCall h s t l (lent edges index work) .reply)
     asked = as-full edges work s t l hs ht k (elim (test-dec (own? edges work s t l hs ht k)) [
@@ -201,16 +201,16 @@ module _ (g : Graph) (bounds : Bounds (g .vertices) (g .longest)) (slots room : 
     ])
 
     shown-if : mostLongest * mostVertices ≤ length walk
-        → (queryCall h s t l (lent edges index work) .reply ≡ Yes) ↔ ((n : ℕ) × (routeCall z s t l (lentOut edges work walk) .reply ≡ RoutedYes n))
+        → (queryCall h s t l (lent edges index work) .reply ≡ Yes) ↔ ((n : ℕ) × (routeCall size s t l (lentOut edges work walk) .reply ≡ RoutedYes n))
     shown-if long = (λ e. runs-lit bounds k hs ht long shown (judged-runs asked e), λ (n, e). let (es, r, _) = lit-route shown e in runs-judged asked (candidate-runs (r .runs)))
 
   -- whatever is asked
-  full : (s t : ℕ) (l work : List ℕ) → fullCall z s t l (lent edges index work) .reply ≢ Refused 4
-      → queryCall h s t l (lent edges index work) .reply ≡ fullCall z s t l (lent edges index work) .reply
-  full s t l work d = go (askRefusal z s t l) refl
+  full : (s t : ℕ) (l work : List ℕ) → fullCall size s t l (lent edges index work) .reply ≢ Refused 4
+      → queryCall h s t l (lent edges index work) .reply ≡ fullCall size s t l (lent edges index work) .reply
+  full s t l work d = go (askRefusal size s t l) refl
     where
-      go : (n : ℕ) → askRefusal z s t l ≡ n → queryCall h s t l (lent edges index work) .reply ≡ fullCall z s t l (lent edges index work) .reply
-      go zero e = let a = ask-leaves z s t l e in full-same edges work s t l (a .start-vertex) (a .destination-vertex) (a .keyed) refl d
+      go : (n : ℕ) → askRefusal size s t l ≡ n → queryCall h s t l (lent edges index work) .reply ≡ fullCall size s t l (lent edges index work) .reply
+      go zero e = let a = ask-leaves size s t l e in full-same edges work s t l (a .start-vertex) (a .destination-vertex) (a .keyed) refl d
       go (suc n) e = rw (query-refuses h s t l (lent edges index work) e, full-refuses h s t l (lent edges index work) e) refl
 
   pub right : Right h edges index g

@@ -16,6 +16,7 @@ ghost use Rattle.edges.specs.Slots.{Under, Skipped, Starts};
 
 const MOST_LABEL: u32 = model::MOST_LABEL as u32;
 
+// How many counts a table of labels has.
 const LABEL_FIELD: usize = LABELS as usize;
 
 // What check 3 finds: how many edges stand, or that this is no edge memory of the graph.
@@ -167,7 +168,7 @@ fn count_labels(edges: &[u32]) -> [u32; 2 * LABEL_FIELD]
     counts
 }
 
-// How many of the standing edges have each label 1 to 8 (document 02, Four).
+// How many of the standing edges have each label 1 to 8 (document 02, Four). Label c is counted at c in the first table, and at 16 + c in the second.
 pub fn totals(edges: &[u32]) -> [u32; model::MOST_LABEL]
     requires { ⌜ length (now edges) ≤ mostEdges ⌝ }
     ensures { λ r. ⌜ r ≡ totalsOf (standing (now (edges .entry))) ⌝ }
