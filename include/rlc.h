@@ -11,13 +11,14 @@
  *   record   RLC_RECORD_N numbers: vertices (1 to 256), longest pattern k (1 to 4), then 8 totals: how many edges have
  *            label 1, label 2, .. label 8. Totals let a query by a label that the layout lacks be told no at once. Each
  *            accepted open, insert, remove and read card counts them anew and hands them back in the record, whatever
- *            they were: you need not fill them in before a layout is opened or a card is read, and should not change
- *            them afterwards. No refusal depends on them, and only rlc_query looks at them.
+ *            they were: you need not fill them in before a layout is opened or a card is read. Keep all the numbers
+ *            with the edges and the index: with totals that are not those of the edges, rlc_query may reply a wrong no
+ *            and is not refused. No refusal depends on totals, and only rlc_query looks at them.
  *   edges    edge memory, 0 to 1,024 slots: one edge a slot, from * 4096 + label * 256 + to, strictly rising, then zeros
  *   index    index memory, any number of slots: one entry a slot, strictly rising, then zeros
  *   work     at least 4,096 numbers; if an index is built (insert, remove, read card), one more for each index
  *            slot. Contents do not matter. Zero after an accepted call and after refusals 13 and 18, else untouched.
- *            A query uses it only if its pattern repeats itself (see rlc_query).
+ *            A query uses it only if its pattern repeats itself and no label of it has total 0 (see rlc_query).
  *   walk     walk memory, any number of slots: a route's edges in running order, written as in edge memory
  *
  * A slice is a pointer and then its number of elements. Elements must be aligned as their C type asks. A slice
@@ -38,7 +39,7 @@
 extern "C" {
 #endif
 
-/* How many numbers a record has. */
+/* How many numbers a record has. (RLC_RECORD is a reply, not a length.) */
 #define RLC_RECORD_N 10
 
 /* Replies. */
@@ -73,11 +74,12 @@ enum {
 };
 
 /* Opens an empty layout with the record's vertices and k: zeroes edge and index memory. Refusals 1 2 3.
- * Returns 0 or the refusal. The totals handed back are zero. */
+ * Returns 0 or the refusal. Accepted, the record's totals are zero. */
 uint32_t rlc_open(uint32_t *record, size_t record_n, uint32_t *edges, size_t edges_n, uint64_t *index, size_t index_n);
 
 /* Inserts (lays) an edge and builds the index of the edges that then stand. Refusals 1 2 3 4 5 6 7 9 13.
- * Index memory is written whole; what it held before does not matter. Returns 0 or the refusal. */
+ * Index memory is written whole; what it held before does not matter. Accepted, the record's totals are counted anew.
+ * Returns 0 or the refusal. */
 uint32_t rlc_insert(uint32_t *record, size_t record_n, uint32_t from, uint32_t label, uint32_t to, uint32_t *edges, size_t edges_n,
                     uint64_t *index, size_t index_n, uint64_t *work, size_t work_n);
 

@@ -163,13 +163,14 @@ fn ask_lacking(t: &mut Tester, ground: &Ground, memory: &Memory) {
     let clean = Memory { work: t.rng.words(work), ..memory.clone() };
     let mut dirty = gen::dirty(&mut t.rng, &memory.index);
     gen::damage_index(&mut t.rng, ground.layout.header, &mut dirty.index);
-    for lent in [&clean, &dirty] {
+    let replies = [&clean, &dirty].map(|lent| {
         let mut left = lent.clone();
         let reply = t.query(ground.record, start, destination, &check.pattern, &mut left);
         t.expect("a query with a label that no edge has", reply, 0);
         t.expect("all as found after it", left == *lent, true);
-    }
-    full_reply::hold(t, &ground.change, &ground.record, &check, &clean, 0);
+        reply
+    });
+    full_reply::hold(t, &ground.change, &ground.record, &check, &clean, replies[0]);
 }
 
 /// If entries are struck out and the others close up, the query of each struck one is answered no. A pattern that

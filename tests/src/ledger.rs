@@ -122,15 +122,9 @@ impl Ledger {
         if card.len() != 9 + 3 * count {
             return 16;
         }
-        let mut edges: BTreeSet<Edge> = BTreeSet::new();
-        for bytes in card[9..].chunks(3) {
-            let edge = (bytes[0] as u32, bytes[1] as u32, bytes[2] as u32);
-            let of_layout = edge.0 < header[0] && edge.1 >= 1 && edge.1 <= 8 && edge.2 < header[0];
-            if !of_layout || edges.last().is_some_and(|last| *last >= edge) {
-                return 16;
-            }
-            edges.insert(edge);
-        }
+        let Some(edges) = card_edges(&card[9..], header[0]) else {
+            return 16;
+        };
         if slots.edges > 1024 {
             return 3;
         }
@@ -170,4 +164,18 @@ impl Ledger {
 fn needed(edges: &BTreeSet<Edge>, longest: u32) -> Vec<u64> {
     let edges: Vec<Edge> = edges.iter().copied().collect();
     determined(&edges, longest)
+}
+
+/// The edges that a card's triples name, if they rise and are edges of a layout with so many vertices.
+fn card_edges(triples: &[u8], vertices: u32) -> Option<BTreeSet<Edge>> {
+    let mut edges: BTreeSet<Edge> = BTreeSet::new();
+    for bytes in triples.chunks(3) {
+        let edge = (bytes[0] as u32, bytes[1] as u32, bytes[2] as u32);
+        let of_layout = edge.0 < vertices && edge.1 >= 1 && edge.1 <= 8 && edge.2 < vertices;
+        if !of_layout || edges.last().is_some_and(|last| *last >= edge) {
+            return None;
+        }
+        edges.insert(edge);
+    }
+    Some(edges)
 }

@@ -7,7 +7,7 @@ use crate::library::*;
 use crate::record::Record;
 use crate::trials::{CARD_A, LAYOUT_A};
 
-/// The totals, as far as they are there, are right, or all 0.
+/// The totals, as far as they are there, are those of layout A, or all 0.
 pub fn run(t: &mut Tester) {
     t.part = "lengths";
     for n in OTHER_LENGTHS {

@@ -52,7 +52,7 @@ fn put(t: &mut Tester, call: Call, forced: &[u32]) {
     }
 }
 
-fn force_record(t: &mut Tester, forced: &[u32], layout: &mut Layout) {
+fn force_header(t: &mut Tester, forced: &[u32], layout: &mut Layout) {
     if forced.contains(&1) {
         layout.header[0] = gen::no_vertices(&mut t.rng);
     }
@@ -103,7 +103,7 @@ fn force_index(t: &mut Tester, forced: &[u32], needed: usize) -> (usize, usize) 
 /// Over noise, or over edges that stand.
 fn open(t: &mut Tester, forced: &[u32]) {
     let (mut layout, edges) = layout_and_edges(t);
-    force_record(t, forced, &mut layout);
+    force_header(t, forced, &mut layout);
     let slots = if forced.contains(&3) { EDGES + t.rng.pick(&[1, 1, 2, 500]) } else { t.rng.pick(&[0, 1, 7, EDGES]) };
     let index = t.rng.below(20);
     let mut memory = gen::noise(&mut t.rng, slots, index, 0);
@@ -137,7 +137,16 @@ fn change(t: &mut Tester, insertion: bool, forced: &[u32]) {
     let judged = if forced.contains(&13) || forced.contains(&3) { longest.min(2) } else { longest };
     let needed = determined_entries(&wanted, judged).len();
     let (index, work) = force_index(t, forced, needed);
-    force_record(t, forced, &mut layout);
+    force_header(t, forced, &mut layout);
+    force_edge(t, forced, &layout, &mut edge);
+    let mut memory = gen::noise(&mut t.rng, 0, index, work);
+    memory.edges = slots;
+    let mut record = records::any(&mut t.rng, layout.header, &edges);
+    t.change(insertion, &mut record, edge, &mut memory);
+}
+
+/// An end that is no vertex, a label that is none.
+fn force_edge(t: &mut Tester, forced: &[u32], layout: &Layout, edge: &mut Edge) {
     if forced.contains(&5) {
         let bad = gen::no_vertex(&mut t.rng, layout.header[0]);
         if t.rng.one_in(2) {
@@ -149,10 +158,6 @@ fn change(t: &mut Tester, insertion: bool, forced: &[u32]) {
     if forced.contains(&6) {
         edge.1 = gen::no_wide_label(&mut t.rng);
     }
-    let mut memory = gen::noise(&mut t.rng, 0, index, work);
-    memory.edges = slots;
-    let mut record = records::any(&mut t.rng, layout.header, &edges);
-    t.change(insertion, &mut record, edge, &mut memory);
 }
 
 fn force_question(t: &mut Tester, forced: &[u32], layout: &Layout) -> Check {
@@ -214,7 +219,7 @@ fn query(t: &mut Tester, forced: &[u32]) {
     if !repeats_itself(&check.pattern) && t.rng.one_in(2) {
         memory = gen::dirty(&mut t.rng, &memory.index);
     }
-    force_record(t, forced, &mut layout);
+    force_header(t, forced, &mut layout);
     let having = records::having(&mut t.rng, layout.header, &edges, &check.pattern);
     let lacking = records::lacking(&mut t.rng, layout.header, &edges, &check.pattern);
     t.query(having, check.start, check.destination, &check.pattern, &mut memory.clone());
@@ -226,7 +231,7 @@ fn search(t: &mut Tester, forced: &[u32]) {
     let slots = force_edges(t, forced, &mut layout, &mut edges, false);
     let check = force_question(t, forced, &layout);
     let work = if forced.contains(&4) { gen::short_work(&mut t.rng, 0) } else { gen::enough_work(&mut t.rng, 0) };
-    force_record(t, forced, &mut layout);
+    force_header(t, forced, &mut layout);
     let mut memory = gen::noise(&mut t.rng, 0, 0, work);
     memory.edges = slots;
     let record = records::any(&mut t.rng, layout.header, &edges);
@@ -264,7 +269,7 @@ fn route(t: &mut Tester, forced: &[u32]) {
     let any = (force_question(t, forced, &layout), t.rng.pick(&[0, 1, 4, 1024]));
     let (check, walk) = question.unwrap_or(any);
     let work = if forced.contains(&4) { gen::short_work(&mut t.rng, 0) } else { gen::enough_work(&mut t.rng, 0) };
-    force_record(t, forced, &mut layout);
+    force_header(t, forced, &mut layout);
     let mut memory = Memory { edges: slots, ..gen::noise(&mut t.rng, 0, 0, work) };
     let mut walk = t.rng.short_words(walk);
     let record = records::any(&mut t.rng, layout.header, &edges);
@@ -286,7 +291,7 @@ fn read_card(t: &mut Tester, forced: &[u32]) {
     let longest = layout.header[1];
     let needed = determined_entries(&edges, if forced.contains(&13) { longest.min(2) } else { longest }).len();
     let (index, work) = force_index(t, forced, needed);
-    force_record(t, forced, &mut layout);
+    force_header(t, forced, &mut layout);
     let mut card = card_of([layout.header[0].clamp(1, 256), layout.header[1].min(255)], &edges);
     if forced.contains(&16) {
         force_16(t, &mut card);
@@ -322,7 +327,7 @@ fn force_16(t: &mut Tester, card: &mut Vec<u8>) {
 fn write_card(t: &mut Tester, forced: &[u32]) {
     let (mut layout, mut edges) = layout_and_edges(t);
     let slots = force_edges(t, forced, &mut layout, &mut edges, false);
-    force_record(t, forced, &mut layout);
+    force_header(t, forced, &mut layout);
     let length = 9 + 3 * edges.len();
     let any = t.rng.below(length);
     let room = if forced.contains(&17) { t.rng.pick(&[0, 8, length - 1, any]) } else { length + t.rng.below(5) };

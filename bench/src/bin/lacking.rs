@@ -37,16 +37,16 @@ fn draw_lacking(random: &mut Random, lent: &Lent) -> (u32, u32, Vec<u8>) {
     (s, t, pattern)
 }
 
-/// All questions, so often: the mean of a query, in ns. Each is a no.
+/// All questions, so often: the mean of a query, in ns.
 fn mean(lent: &mut Lent, questions: &[(u32, u32, Vec<u8>)], times: usize) -> f64 {
-    let (time, yes) = millis(|| {
+    let (time, replies) = millis(|| {
         let mut replies = 0;
         for _ in 0..times {
             replies += questions.iter().map(|(s, t, pattern)| lent.query(*s, *t, pattern)).sum::<u32>();
         }
         replies
     });
-    assert_eq!(yes, 0);
+    assert_eq!(replies, 0, "each is a no");
     time * 1e6 / (times * questions.len()) as f64
 }
 

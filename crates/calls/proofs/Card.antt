@@ -294,7 +294,7 @@ pub record Cardable (h : Size) (edges : List ℕ) : Type 0 where
 -- their card passes, and says them
 pub record CardSays (card : List ℕ) (h : Size) (edges : List ℕ) : Type 0 where
   pub passes : cardRefusal card ≡ 0
-  pub header : sizeOf card ≡ h
+  pub size-is : sizeOf card ≡ h
   pub count : countOf card ≡ length edges
   pub edges-are : edgesOf (drop headBytes card) ≡ edges
   pub bytes : Bytes card
@@ -313,7 +313,7 @@ card-says {h} {edges} c =
           (pass refl
           (pass (test-true (test-longest (h .longest)) (c .bounds .longest-least, c .bounds .longest-most))
           (pass (card-edges-body (cardOf h edges) (size ∙ ap (λ (k : ℕ). headBytes + 3 * k) (sym n)) ∙ rw vertices-are rises) all-pass))));
-      header = ap (λ (v : ℕ). record { vertices = v; longest = h .longest }) vertices-are;
+      size-is = ap (λ (v : ℕ). record { vertices = v; longest = h .longest }) vertices-are;
       count = n;
       edges-are = edges-bytes edges;
       bytes =

@@ -6,7 +6,6 @@ use Prim.Native.Nat.{ℕ, zero, suc, _-_, _<_}
 use native.Mathlib.Omega.{arith}
 use lib.ListN.{getD}
 use Rattle.model.specs.Limits.{mostLongest}
-use Rattle.model.specs.Lists.{_∈_}
 use Rattle.model.specs.Edges.{Bounds}
 use Rattle.model.specs.Patterns.{Keyed}
 use Rattle.model.specs.Query.{No, Refused}
@@ -16,7 +15,7 @@ use Rattle.model.specs.declared.Refusal.{Refusal}
 use Rattle.model.proofs.Tests.{Tests, test-true, test-yields, test-any, test-eq}
 use Rattle.model.proofs.Patterns.{test-keyed, keyed-up}
 use Rattle.calls.specs.Checks.{vertices?, longest?, ends?}
-use Rattle.calls.specs.Call.{Size, Header, Memory, Meets}
+use Rattle.calls.specs.Call.{Size, Header, Lacks, Memory, Meets}
 use Rattle.calls.specs.Query.{askChecks, askRefusal, fullRefusal, fullCall, lacking?, queryCall}
 use Rattle.calls.proofs.Checks.{none, pass, first-is, done, also, passes, bounded, bounds-pass, test-ends}
 use Rattle.calls.proofs.Calls.{refused-meets, accepted-is}
@@ -52,8 +51,7 @@ ask-passes {h} {s} {t} {l} b hs ht k =
 
 -- ---- the rule of totals
 
--- a colour of the pattern has total 0
-pub test-lacking : (totals pattern : List ℕ) → Tests (lacking? totals pattern) ((c : ℕ) × (c ∈ pattern) × (getD totals (c - 1) 0 ≡ 0))
+pub test-lacking : (totals pattern : List ℕ) → Tests (lacking? totals pattern) (Lacks totals pattern)
 unfolding lacking?
 test-lacking totals pattern = test-any (λ c. test-eq (getD totals (c - 1) 0) 0) pattern
 
@@ -77,7 +75,7 @@ module _ (h : Header) (start destination : ℕ) (pattern : List ℕ) (m : Memory
   unfolding queryCall
   query-lacking e q = accepted-is Refused m _ asked e ∙ rw q refl
 
-  -- the full question begins with the same checks, so it is the question wherever no colour is lacking, refused or not
+  -- the full question begins with the same checks, so it is the question wherever no label is lacking, refused or not
   pub full-refuses : {n : ℕ} → askRefusal (h .size) start destination pattern ≡ suc n
       → fullCall (h .size) start destination pattern m ≡ record { reply = Refused (suc n); memory = m }
   unfolding fullCall askRefusal fullRefusal

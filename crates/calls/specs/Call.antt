@@ -1,10 +1,10 @@
 -- The shape of every call: it takes the record and the memory lent to it, and gives a reply and what that memory holds afterwards.
 use mathlib.Core.Path.{_≡_}
 use mathlib.Core.List.{List, []}
-use Prim.Native.Nat.{ℕ, zero, suc}
-use lib.ListN.{replicate}
+use Prim.Native.Nat.{ℕ, zero, suc, _-_}
+use lib.ListN.{getD, replicate}
 use Rattle.model.specs.Limits.{mostLabel}
-use Rattle.model.specs.Lists.{zeroed}
+use Rattle.model.specs.Lists.{_∈_, zeroed}
 use Rattle.model.specs.Edges.{Graph}
 
 -- "The record holds the number of places and k." Checks look at these alone
@@ -16,6 +16,10 @@ pub record Size : Type 0 where
 pub record Header : Type 0 where
   pub size : Size
   pub totals : List ℕ
+
+-- a label (colour) of the pattern "whose total is 0"
+abbrev pub Lacks : (totals pattern : List ℕ) → Type 0
+Lacks totals pattern = (c : ℕ) × (c ∈ pattern) × (getD totals (c - 1) 0 ≡ 0)
 
 -- the size of a layout with its standing edges
 abbrev pub graphOf : Size → List ℕ → Graph

@@ -18,7 +18,7 @@ abbrev pub handed : ℕ → (given : Header) → Size → (edges : List ℕ) →
 handed zero given size edges = record { size = size; totals = totalsOf (standing edges) }
 handed (suc n) given size edges = given
 
--- with the answer
+-- what a changing call returns: that record, and its answer
 abbrev pub returning : ℕ → (given : Header) → Size → (edges : List ℕ) → Returned
 returning answer given size edges = record { header = handed answer given size edges; answer = answer }
 

@@ -12,7 +12,7 @@ use Rattle.model.specs.Computed.Levels.{levelReply}
 use Rattle.calls.specs.Checks.{vertices?, longest?, ends?, firstRefusal}
 use Rattle.calls.specs.Call.{Size, graphOf, Memory, cleared, Outcome, refusing}
 
--- what the call is given: the record's size (it does not look at totals), start and destination, the pattern as keyed, and memory
+-- what the call is given: the record's size (it does not look at totals), start and destination, and the pattern as keyed
 module _ (size : Size) (start destination : ℕ) (pattern : List ℕ) where
   -- "Plain check 1 2 3 4 10 11."
   unfoldable pub searchRefusal : Memory → ℕ

@@ -17,10 +17,10 @@ use Rattle.checks.specs.declared.Standing.the-variants.{Edges, Refused as NotSt
 use Rattle.card.specs.declared.Checked.{Checked}
 use Rattle.card.specs.declared.Checked.the-variants.{Layout, Refused}
 
--- all checks of the card alone have passed: its header, and the number of its edges
-pub record CardPasses (card : List ℕ) (h : Size) (n : ℕ) : Type 0 where
+-- all checks of the card alone have passed: its size, and the number of its edges
+pub record CardPasses (card : List ℕ) (size : Size) (n : ℕ) : Type 0 where
   pub is : cardRefusal card ≡ 0
-  pub header : h ≡ sizeOf card
+  pub size-is : size ≡ sizeOf card
   pub count : n ≡ countOf card
 
 abbrev pub CardChecks : List ℕ → Checked → Type 0
@@ -32,11 +32,11 @@ pub record Fillable (card : List ℕ) (n : ℕ) (edges : List ℕ) : Type 0 wher
   pub whole : length card ≡ headBytes + tripleBytes * n
   pub room : n ≤ length edges
 
--- a header and edges of its graph, whose card the output has room for
-pub record Writable (h : Size) (edges output : List ℕ) : Type 0 where
-  pub bounds : Bounds (h .vertices) (h .longest)
+-- the size and the edges of a graph whose card the output has room for
+pub record Writable (size : Size) (edges output : List ℕ) : Type 0 where
+  pub bounds : Bounds (size .vertices) (size .longest)
   pub few : length edges ≤ mostEdges
-  pub valid : (x : ℕ) → x ∈ edges → edge? (h .vertices) x ≡ true
+  pub valid : (x : ℕ) → x ∈ edges → edge? (size .vertices) x ≡ true
   pub room : headBytes + tripleBytes * length edges ≤ length output
 
 -- the first nine bytes of a card with n edges, and what fits in them
@@ -54,11 +54,11 @@ pub record Body (edges output : List ℕ) : Type 0 where
   pub room : tripleBytes * length edges ≤ length output
 
 -- all checks of a card that is written have passed, and n edges stand
-pub record WritePasses (h : Size) (m : Memory) (n : ℕ) : Type 0 where
-  pub is : writeRefusal h m ≡ 0
-  pub layout : LayoutPasses (h .vertices) (h .longest) (m .edges) n
+pub record WritePasses (size : Size) (m : Memory) (n : ℕ) : Type 0 where
+  pub is : writeRefusal size m ≡ 0
+  pub layout : LayoutPasses (size .vertices) (size .longest) (m .edges) n
   pub room : headBytes + tripleBytes * n ≤ length (m .output)
 
 abbrev pub WriteChecks : Size → Memory → Standing → Type 0
-WriteChecks h m (Edges n) = WritePasses h m n
-WriteChecks h m (NotStanding r) = writeRefusal h m ≡ numberOf r
+WriteChecks size m (Edges n) = WritePasses size m n
+WriteChecks size m (NotStanding r) = writeRefusal size m ≡ numberOf r

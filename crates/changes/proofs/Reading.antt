@@ -88,7 +88,7 @@ module _ {card : List ℕ} {m : Memory} {h : Size} {n : ℕ} (p : Reads card m h
 
   -- the byte of the vertices is a byte
   pub read-wanted : getD card 5 0 < 256 → Wanted h (edgesOf (drop headBytes card)) m n
-  read-wanted b = rw (p .header) (let g = good card m (p .is) in
+  read-wanted b = rw (p .size-is) (let g = good card m (p .is) in
       let l = triples-good (sizeOf card .vertices) 0 (drop headBytes card) (g .alone .triples) (omega (arith, b)) in
       record {
         count = p .count ∙ sym (g .alone .count);
@@ -102,7 +102,7 @@ module _ {card : List ℕ} {m : Memory} {h : Size} {n : ℕ} (p : Reads card m h
 
   pub read-leaves : {k : ℕ} {left : Memory} → Meets (settle h (edgesOf (drop headBytes card)) m) k left → Meets (readChange card m) k left
   unfolding readChange
-  read-leaves l = rw (accepted-is (λ n. n) m _ (readRefusal card m) (p .is), sym (p .header)) l
+  read-leaves l = rw (accepted-is (λ n. n) m _ (readRefusal card m) (p .is), sym (p .size-is)) l
 
 pub refused-leaves : (card : List ℕ) (m : Memory) (r : Refusal) → readRefusal card m ≡ numberOf r → Meets (readChange card m) (numberOf r) m
 unfolding readChange

@@ -12,7 +12,7 @@ use Rattle.changes.specs.declared.Layout.the-variants.{Holds, Refused as
 -- all checks of a card reading have passed: the card's size, and the number of its edges
 pub record Reads (card : List ℕ) (m : Memory) (size : Size) (n : ℕ) : Type 0 where
   pub is : readRefusal card m ≡ 0
-  pub header : size ≡ sizeOf card
+  pub size-is : size ≡ sizeOf card
   pub count : n ≡ countOf card
 
 abbrev pub Readings : (card : List ℕ) → Memory → Layout → Type 0

@@ -21,7 +21,7 @@ use Rattle.model.specs.Levels.{Told, found, ended, stopped}
 use Rattle.model.proofs.Tests.{Tests, test-yields, test-fails, test-and, test-or, test-not, test-eq, test-T, both-ways}
 use Rattle.model.proofs.Search.{told}
 use Rattle.calls.specs.Checks.{Check, firstRefusal}
-use Rattle.calls.specs.Call.{Size, Header, graphOf, Memory, cleared, Outcome, refusing, Wrote, Length, Refused as NotWritten}
+use Rattle.calls.specs.Call.{Size, Header, Lacks, graphOf, Memory, cleared, Outcome, refusing, Wrote, Length, Refused as NotWritten}
 use Rattle.calls.specs.Search.{searchRefusal, searchCall}
 use Rattle.calls.specs.Route.{lit, lighting, routeCall}
 use Rattle.calls.specs.Query.{saying, askRefusal, fullRefusal, fullCall, lacking?, queryCall}
@@ -30,7 +30,7 @@ use Rattle.calls.specs.Card.{readRefusal, readChange, readCall, cardOf, writeRe
 use Rattle.calls.proofs.Change.{handed-some}
 use Rattle.calls.proofs.Query.{test-lacking, query-refuses, query-lacking, query-full}
 use Rattle.calls.proofs.Route.{LightingCase, nothing, fits, too-long, lighting-case}
-use Rattle.demands.specs.Demand1.{Zeroing, Keeps, ChangeKeeps, Lacks, searchNumber, queryNumber, routeNumber, writeNumber, Leaves, LeavesWalk, Demand1}
+use Rattle.demands.specs.Demand1.{Zeroing, Keeps, ChangeKeeps, searchNumber, queryNumber, routeNumber, writeNumber, Leaves, LeavesWalk, Demand1}
 use Rattle.demands.proofs.Asking.{number-refuses, once-is, repeats-is}
 
 -- an accepted call refuses nothing

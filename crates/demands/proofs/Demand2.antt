@@ -9,14 +9,14 @@ use lib.ListN.{length, take, drop}
 use lib.Seq.{take-append-seam}
 use Rattle.model.specs.Limits.{mostEdges, leastWork, headBytes, tripleBytes}
 use Rattle.model.specs.Lists.{filled, Bytes}
-use Rattle.model.specs.Edges.{standing}
+use Rattle.model.specs.Edges.{standing, totalsOf}
 use Rattle.model.specs.Computed.Edges.{edgeMemory?}
 use Rattle.model.specs.Computed.Entries.{determined}
 use Rattle.model.proofs.Tests.{test-true, test-le}
 use Rattle.model.proofs.Memory.{edge-memory, edge-least, standing-filled, standing-some, filled-memory}
 use Rattle.model.proofs.Zeros.{filled-within}
 use Rattle.calls.specs.Checks.{vertices?, longest?, Check, firstRefusal}
-use Rattle.calls.specs.Call.{Size, Header, graphOf, Memory, Outcome, noRecord, Wrote, Length}
+use Rattle.calls.specs.Call.{Size, graphOf, Memory, Outcome, noRecord, Wrote, Length}
 use Rattle.calls.specs.Change.{handing, buildRoom?, fits?}
 use Rattle.calls.specs.Card.{sizeOf, countOf, edgesOf, cardOf, cardChecks, cardRefusal, readRefusal, readChange, readCall, writeRefusal, writeCall}
 use Rattle.calls.proofs.Checks.{none, pass, first-is, bounded, bounds-pass}
@@ -73,7 +73,7 @@ unfolding readCall readChange readRefusal
 read-accepted card m {h} {edges} says room =
     let q : firstRefusal (cardChecks card ++ later) ≡ 0 = pass-first (cardChecks card) later tt (unfold cardRefusal in says .passes) ∙ rest in
     settled noRecord (sizeOf card) (edgesOf (drop headBytes card)) m (cardChecks card ++ more) tt .accepted q
-    ∙ ap₂ (λ (k : Size) (l : List ℕ). handing noRecord k (settledChange k l m)) (says .header) (says .edges-are)
+    ∙ ap₂ (λ (k : Size) (l : List ℕ). handing noRecord k (settledChange k l m)) (says .size-is) (says .edges-are)
   where
     more : List Check
     more = (3, leb (length (m .edges)) mostEdges) ∷ (9, leb (countOf card) (length (m .edges))) ∷ (4, buildRoom? m) ∷ []
@@ -82,7 +82,7 @@ read-accepted card m {h} {edges} says room =
     later = more ++ ((13, fits? (sizeOf card) (edgesOf (drop headBytes card)) m) ∷ [])
 
     thirteen : fits? (sizeOf card) (edgesOf (drop headBytes card)) m ≡ true
-    thirteen = ap₂ (λ (k : Size) (l : List ℕ). fits? k l m) (says .header) (says .edges-are) ∙ (test-true (test-le (length (determined (graphOf h edges))) (length (m .index))) (room .index-slots))
+    thirteen = ap₂ (λ (k : Size) (l : List ℕ). fits? k l m) (says .size-is) (says .edges-are) ∙ (test-true (test-le (length (determined (graphOf h edges))) (length (m .index))) (room .index-slots))
 
     nine : leb (countOf card) (length (m .edges)) ≡ true
     nine = rw (says .count) (test-true (test-le (length edges) (length (m .edges))) (room .edge-slots))
@@ -94,20 +94,20 @@ read-accepted card m {h} {edges} says room =
         (pass (test-true (test-le (leastWork + length (m .index)) (length (m .work))) (room .work))
         (pass thirteen none))))
 
-reading : (h : Header) (w : Memory) (n : ℕ) (m : Memory) → writeCall (h .size) w .reply ≡ Length n
-    → Roomy m (length (standing (w .edges))) (length (determined (graphOf (h .size) (standing (w .edges)))))
-    → Restores h (w .edges) m (readCall (take n (writeCall (h .size) w .memory .output)) m)
+reading : (h : Size) (w : Memory) (n : ℕ) (m : Memory) → writeCall h w .reply ≡ Length n
+    → Roomy m (length (standing (w .edges))) (length (determined (graphOf h (standing (w .edges)))))
+    → Restores h (w .edges) m (readCall (take n (writeCall h w .memory .output)) m)
 reading h w n m e room =
-    let a = wrote (h .size) w e in
-    let card = cardOf (h .size) (standing (w .edges)) in
-    let bytes : take n (writeCall (h .size) w .memory .output) ≡ card
+    let a = wrote h w e in
+    let card = cardOf h (standing (w .edges)) in
+    let bytes : take n (writeCall h w .memory .output) ≡ card
     = rw (a .out) (ap (λ (k : ℕ). take k (card ++ drop n (w .output))) (a .size) ∙ take-append-seam card (drop n (w .output))) in
     let stands : standing (filled (length (m .edges)) (standing (w .edges))) ≡ standing (w .edges)
     = standing-filled (length (m .edges)) (standing (w .edges)) (λ x k. standing-some (w .edges) k) in
     rw (bytes, read-accepted card m (card-says (a .cardable)) room) (record {
       accepted = refl;
-      size = refl;
-      header = λ counted. rw (stands, sym counted) refl;
+      size-back = refl;
+      totals-back = ap totalsOf stands;
       edges-back = refl;
       index-back = refl;
     })

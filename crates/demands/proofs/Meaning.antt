@@ -24,11 +24,11 @@ use Rattle.model.proofs.Query.{test-answers}
 use Rattle.model.proofs.Codes.{test-code}
 use Rattle.model.proofs.Memories.{test-edge-memory, test-index-memory}
 use Rattle.model.proofs.Totals.{total-at, total-zero}
-use Rattle.calls.specs.Call.{Size, Header, graphOf, Memory}
+use Rattle.calls.specs.Call.{Size, Header, Lacks, graphOf, Memory}
 use Rattle.calls.specs.Search.{searchCall}
 use Rattle.calls.specs.Query.{queryCall}
 use Rattle.calls.proofs.Query.{ask-passes, test-lacking, query-lacking, query-full}
-use Rattle.demands.specs.Demand1.{Lacks, searchNumber, queryNumber}
+use Rattle.demands.specs.Demand1.{searchNumber, queryNumber}
 use Rattle.demands.specs.Demand2.{Judged}
 use Rattle.demands.proofs.Asking.{unrefused, search-right}
 use Rattle.demands.proofs.Routing.{search-allowed, search-number, route-told, route-levels}

@@ -29,7 +29,7 @@ use Rattle.model.proofs.Memory.{edge-memory, edge-least, standing-filled, stand
 use Rattle.model.proofs.Totals.{total-at, runs-total}
 use Rattle.model.proofs.Zeros.{Ordered, filled-within}
 use Rattle.calls.specs.Checks.{ends?, Check, firstRefusal}
-use Rattle.calls.specs.Call.{Size, Header, graphOf, Memory, lent, lentOut, Outcome, Returned, noRecord}
+use Rattle.calls.specs.Call.{Size, Header, Lacks, graphOf, Memory, lent, lentOut, Outcome, Returned, noRecord}
 use Rattle.calls.specs.Search.{searchRefusal}
 use Rattle.calls.specs.Route.{routeCall}
 use Rattle.calls.specs.Query.{askRefusal, fullRefusal, fullCall, lacking?, queryCall}
@@ -40,7 +40,6 @@ use Rattle.calls.proofs.Change.{ChangeGood, change-good, front-passes}
 use Rattle.calls.proofs.Settling.{settledChange, Result, settled, with-number, accepted-zero}
 use Rattle.calls.proofs.Passing.{passing}
 use Rattle.calls.proofs.Query.{within, ask-leaves, ask-passes, test-lacking, query-refuses, query-lacking, full-refuses, query-full}
-use Rattle.demands.specs.Demand1.{Lacks}
 use Rattle.demands.specs.Demand2.{Judged, runs-not, Lit, Right, RightAfter}
 use Rattle.demands.proofs.Asking.{judged, judged-runs, runs-judged, not-judged, number-refuses, once-is, search-right}
 use Rattle.demands.proofs.Routing.{lit-route, runs-lit, route-lit}

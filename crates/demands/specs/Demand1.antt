@@ -3,14 +3,14 @@
 use mathlib.Core.Path.{_≡_}
 use mathlib.Core.Logic.{_⊎_}
 use mathlib.Core.List.{List, [], _++_}
-use Prim.Native.Nat.{ℕ, _-_, _≤_}
-use lib.ListN.{getD, take, drop}
-use Rattle.model.specs.Lists.{_∈_, zeroed}
+use Prim.Native.Nat.{ℕ, _≤_}
+use lib.ListN.{take, drop}
+use Rattle.model.specs.Lists.{zeroed}
 use Rattle.model.specs.Patterns.{MinRepeat}
 use Rattle.model.specs.Query.{Answered, Yes as AnsweredYes, No as AnsweredNo, Refused as AnsweredRefused}
 use Rattle.model.specs.Routes.{Routed, Yes as RoutedYes, No as RoutedNo, Refused as RoutedRefused}
 use Rattle.model.specs.States.{Reply, Yes, No, Spent, Refused}
-use Rattle.calls.specs.Call.{Size, Header, Memory, lent, cleared, Outcome, Returned, Wrote, Length, Refused as NotWritten, noRecord}
+use Rattle.calls.specs.Call.{Size, Header, Lacks, Memory, lent, cleared, Outcome, Returned, Wrote, Length, Refused as NotWritten, noRecord}
 use Rattle.calls.specs.Search.{searchCall}
 use Rattle.calls.specs.Route.{routeCall}
 use Rattle.calls.specs.Query.{queryCall}
@@ -55,10 +55,6 @@ routeNumber (RoutedRefused n) = n
 abbrev pub writeNumber : Wrote → ℕ
 writeNumber (Length n) = 0
 writeNumber (NotWritten n) = n
-
--- a label (colour) of the pattern "whose total is 0" (document 02, Four)
-abbrev pub Lacks : (totals pattern : List ℕ) → Type 0
-Lacks totals pattern = (c : ℕ) × (c ∈ pattern) × (getD totals (c - 1) 0 ≡ 0)
 
 -- what an accepted question leaves
 pub record Leaves (totals pattern : List ℕ) (m m′ : Memory) : Type 0 where

@@ -13,12 +13,11 @@ use Rattle.model.specs.Walks.{Runs}
 use Rattle.model.specs.Routes.{Route, Routed, Yes as RoutedYes, No as RoutedNo, Refused as RoutedRefused}
 use Rattle.model.specs.Query.{Answered, Yes, No, Refused}
 use Rattle.model.specs.Computed.Entries.{determined}
-use Rattle.calls.specs.Call.{Header, graphOf, Memory, lent, lentOut, Outcome, Returned, Length}
+use Rattle.calls.specs.Call.{Size, Header, Lacks, graphOf, Memory, lent, lentOut, Outcome, Returned, Length}
 use Rattle.calls.specs.Route.{routeCall}
 use Rattle.calls.specs.Query.{fullCall, queryCall}
 use Rattle.calls.specs.Change.{openCall, insertCall, removeCall}
 use Rattle.calls.specs.Card.{readCall, writeCall}
-use Rattle.demands.specs.Demand1.{Lacks}
 
 -- "A yes or no is judged by the pattern as keyed" (document 02, Two): yes, and some walk spells it one or more whole times, or no, and none does
 pub data Judged (g : Graph) (l : List ℕ) (s t : ℕ) : Answered → Type 0 where
@@ -43,7 +42,7 @@ pub record Right (h : Header) (edges index : List ℕ) (g : Graph) : Type 0 wher
   pub repeating : (start destination : ℕ) (pattern : List ℕ) → start < g .vertices → destination < g .vertices → Keyed (g .longest) pattern
       → ¬ MinRepeat pattern pattern → (work : List ℕ) → leastWork ≤ length work
       → Judged g pattern start destination (queryCall h start destination pattern (lent edges index work) .reply)
-  -- a label that no edge has is a no, which is right, whatever memory is lent
+  -- a label that no edge has is a no, whatever memory is lent (`Meaning.lacking` says it of any record), and that is right
   pub lacking : (start destination : ℕ) (pattern : List ℕ) → start < g .vertices → destination < g .vertices → Keyed (g .longest) pattern
       → Lacks (h .totals) pattern → (m : Memory) → (queryCall h start destination pattern m .reply ≡ No) × ¬ Runs g pattern start destination
   -- "For records and memory as the last accepted change left them, this equals the full reply unless that would be refusal 4"
@@ -75,13 +74,13 @@ abbrev pub RightAfter : Outcome Returned → Type 0
 RightAfter c = Right (c .reply .header) (c .memory .edges) (c .memory .index) (graphOf (c .reply .header .size) (standing (c .memory .edges)))
 
 -- (b) what reading gives of a card that was written
-pub record Restores (h : Header) (edges : List ℕ) (m : Memory) (c : Outcome Returned) : Type 0 where
+pub record Restores (size : Size) (edges : List ℕ) (m : Memory) (c : Outcome Returned) : Type 0 where
   pub accepted : c .reply .answer ≡ 0
-  pub size : c .reply .header .size ≡ h .size
-  -- "a card read back restores the totals too": of a record as a change left it with those edges, and so of any that a change left
-  pub header : h .totals ≡ totalsOf (standing edges) → c .reply .header ≡ h
+  pub size-back : c .reply .header .size ≡ size
+  -- "a card read back restores the totals too": those of the edges that it was written from, and so of every record that a change left (`Right.totals`)
+  pub totals-back : c .reply .header .totals ≡ totalsOf (standing edges)
   pub edges-back : c .memory .edges ≡ filled (length (m .edges)) (standing edges)
-  pub index-back : c .memory .index ≡ filled (length (m .index)) (determined (graphOf (h .size) (standing edges)))
+  pub index-back : c .memory .index ≡ filled (length (m .index)) (determined (graphOf size (standing edges)))
 
 -- memory that a reading of so many edges and entries needs
 pub record Roomy (m : Memory) (edges entries : ℕ) : Type 0 where
@@ -97,9 +96,9 @@ pub record Demand2 : Type 0 where
   pub removes : (h : Header) (from label to : ℕ) (m : Memory) → removeCall h from label to m .reply .answer ≡ 0 → RightAfter (removeCall h from label to m)
   pub reads : (bytes : List ℕ) (m : Memory) → Bytes bytes → readCall bytes m .reply .answer ≡ 0 → RightAfter (readCall bytes m)
   -- a card that was written, read again
-  pub reading : (h : Header) (w : Memory) (n : ℕ) (m : Memory) → writeCall (h .size) w .reply ≡ Length n
-      → Roomy m (length (standing (w .edges))) (length (determined (graphOf (h .size) (standing (w .edges)))))
-      → Restores h (w .edges) m (readCall (take n (writeCall (h .size) w .memory .output)) m)
+  pub reading : (size : Size) (w : Memory) (n : ℕ) (m : Memory) → writeCall size w .reply ≡ Length n
+      → Roomy m (length (standing (w .edges))) (length (determined (graphOf size (standing (w .edges)))))
+      → Restores size (w .edges) m (readCall (take n (writeCall size w .memory .output)) m)
   -- (c) a card that was read, written again: its length, its bytes, and the rest of the output untouched
   pub writing : (bytes output : List ℕ) (m : Memory) → Bytes bytes → readCall bytes m .reply .answer ≡ 0 → length bytes ≤ length output →
       let c = readCall bytes m in

@@ -23,11 +23,11 @@ use Rattle.model.specs.Computed.Levels.{level}
 use Rattle.model.specs.Computed.Entries.{determined}
 use Rattle.model.specs.Computed.Query.{code?, indexMemory?, answers?}
 use Rattle.model.specs.Levels.{Reached, Told, Decides}
-use Rattle.calls.specs.Call.{Size, Header, graphOf, Memory}
+use Rattle.calls.specs.Call.{Size, Header, Lacks, graphOf, Memory}
 use Rattle.calls.specs.Search.{searchCall}
 use Rattle.calls.specs.Route.{routeCall}
 use Rattle.calls.specs.Query.{queryCall}
-use Rattle.demands.specs.Demand1.{Lacks, searchNumber, queryNumber}
+use Rattle.demands.specs.Demand1.{searchNumber, queryNumber}
 use Rattle.demands.specs.Demand2.{Judged, Lit}
 
 -- what an accepted plain check (level search) replies

@@ -16,11 +16,7 @@ use Rattle.model.proofs.Tests.{test-map, test-eq}
 use Rattle.model.proofs.Ranks.{one, raised}
 use Rattle.model.proofs.Totals.{totals-as, total-none, total-more, total-most}
 use Rattle.memory.proofs.Reading.{standing-within}
-use Rattle.edges.specs.Memory.{labels, Tallies}
-
--- what both tables count for a label
-abbrev pub both : List ℕ → ℕ → ℕ
-both counts c = getD counts c 0 + getD counts (labels + c) 0
+use Rattle.edges.specs.Memory.{labels, both, LabelCounts}
 
 -- the tables, and the edges that are still to be counted
 pub record Totalled (edges counts : List ℕ) (i : ℕ) : Type 0 where
@@ -108,7 +104,7 @@ module _ {edges counts : List ℕ} {i : ℕ} (t : Totalled edges counts i) where
     second-small x = omega (arith, both-small (labelOf x) (omega arith))
 
   -- where no edge is left, both tables together have the totals
-  pub totalled-all : standing (drop i edges) ≡ [] → Tallies edges counts
+  pub totalled-all : standing (drop i edges) ≡ [] → LabelCounts edges counts
   totalled-all e = record { long = t .long; each = λ c h. omega (arith, t .each c h, ap (λ (s : List ℕ). totalOf s c) e, total-none c) }
 
 -- and the one behind it in the second
@@ -120,9 +116,9 @@ two-more {edges} {counts} {i} t h a b =
 
 -- ---- the totals
 
-module _ {edges counts : List ℕ} (t : Tallies edges counts) where
-  pub tallies-small : length edges ≤ mostEdges → (c : ℕ) → c < labels → both counts c ≤ mostEdges
-  tallies-small few c h = omega (arith, t .each c h, total-most (standing edges) c, standing-within edges)
+module _ {edges counts : List ℕ} (t : LabelCounts edges counts) where
+  pub counts-small : length edges ≤ mostEdges → (c : ℕ) → c < labels → both counts c ≤ mostEdges
+  counts-small few c h = omega (arith, t .each c h, total-most (standing edges) c, standing-within edges)
 
-  pub tallies-totals : map (both counts) (from 1 mostLabel) ≡ totalsOf (standing edges)
-  tallies-totals = totals-as (standing edges) (λ c low high. t .each c (omega arith))
+  pub counts-totals : map (both counts) (from 1 mostLabel) ≡ totalsOf (standing edges)
+  counts-totals = totals-as (standing edges) (λ c low high. t .each c (omega arith))

@@ -46,7 +46,11 @@ pub record Removable (xs : List ℕ) (n at x : ℕ) : Type 0 where
 abbrev pub labels : ℕ
 labels = fromUnit / labelUnit
 
--- the labels of the standing edges counted in two tables, one behind the other: together they have each label's total
-pub record Tallies (xs counts : List ℕ) : Type 0 where
+-- what two tables of counts, one behind the other, have for a label
+abbrev pub both : List ℕ → ℕ → ℕ
+both counts c = getD counts c 0 + getD counts (labels + c) 0
+
+-- the labels of the standing edges counted in two such tables: together they have each label's total
+pub record LabelCounts (xs counts : List ℕ) : Type 0 where
   pub long : length counts ≡ 2 * labels
-  pub each : (c : ℕ) → c < labels → getD counts c 0 + getD counts (labels + c) 0 ≡ totalOf (standing xs) c
+  pub each : (c : ℕ) → c < labels → both counts c ≡ totalOf (standing xs) c

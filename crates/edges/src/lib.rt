@@ -1,4 +1,4 @@
-// Edge memory: the numbers of edges, check 3, lookup, the slot where a vertex's edges start, insertion and removal.
+// Edge memory: the numbers of edges, check 3, lookup, the slot where a vertex's edges start, how many edges have each label, insertion and removal.
 use model::FROM_UNIT;
 use model::LABEL_UNIT;
 use model::LABELS;
@@ -11,7 +11,7 @@ ghost use Rattle.model.specs.Limits.{mostVertices, mostEdges, fromUnit, labelUn
 ghost use Rattle.model.specs.Lists.{Rising, filled};
 ghost use Rattle.model.specs.Edges.{edgeNumber, labelOf, standing, totalsOf};
 ghost use Rattle.model.specs.Computed.Edges.{edge?, insertEdge, removeEdge};
-ghost use Rattle.edges.specs.Memory.{scanOf, findOf, Insertable, Removable, Tallies};
+ghost use Rattle.edges.specs.Memory.{scanOf, findOf, Insertable, Removable, LabelCounts};
 ghost use Rattle.edges.specs.Slots.{Under, Skipped, Starts};
 
 const MOST_LABEL: u32 = model::MOST_LABEL as u32;
@@ -145,7 +145,7 @@ fn label_of(x: u32) -> usize
 // row need not wait for each other.
 fn count_labels(edges: &[u32]) -> [u32; 2 * LABEL_FIELD]
     requires { ⌜ length (now edges) ≤ mostEdges ⌝ }
-    ensures { λ r. ⌜ Tallies (now (edges .entry)) r ⌝ }
+    ensures { λ r. ⌜ LabelCounts (now (edges .entry)) r ⌝ }
 {
     let mut counts = [0u32; 2 * LABEL_FIELD];
     let mut i = 0;

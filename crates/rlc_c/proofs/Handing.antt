@@ -19,7 +19,7 @@ use Rattle.calls.specs.Change.{openChange, openCall, insertChange, insertCall, 
 use Rattle.calls.proofs.Change.{handed-some}
 use Rattle.store.specs.Store.{returned}
 use Rattle.store.specs.declared.Changed.{Changed}
-use Rattle.rlc_c.specs.Interface.{headerIn, recordNumbers, record?, otherRecord, wordsAfter, HandsBack, ChangesInC}
+use Rattle.rlc_c.specs.Interface.{headerIn, wordsOf, recordNumbers, record?, otherRecord, wordsAfter, HandsBack, ChangesInC}
 
 -- a record of another length
 pub other : (words : List ℕ) → (length words ≡ recordNumbers → ⊥) → record? words ≡ false
@@ -110,9 +110,6 @@ module _ (h : Header) (from label to : ℕ) (m : Memory) where
   unfolding removeCall
   remove-given some = handed-some h (h .size) _ (removeChange (h .size) from label to m .reply) some
 
-abbrev numbersOf : Header → List ℕ
-numbersOf h = h .size .vertices ∷ h .size .longest ∷ h .totals
-
 module _ {words : List ℕ} {m : Memory} {c : Outcome Returned} where
   pub unchanged : (length words ≡ recordNumbers → ⊥) → ChangesInC words m c otherRecord words m
   unchanged d = record { meets = rw (other words d) untouched; words-after = rw (other words d) refl }
@@ -123,12 +120,12 @@ module _ {words : List ℕ} {m : Memory} {c : Outcome Returned} where
     changed {words′} hands b =
         record {
           meets = rw (ten words e) (called (λ (x : Returned). x .answer) l (b .number));
-          words-after = rw (ten words e) (b .words-after ∙ ap (λ (k : Returned). numbersOf (k .header)) (l .reply-is) ∙ go (c .reply .answer) refl);
+          words-after = rw (ten words e) (b .words-after ∙ ap (λ (k : Returned). wordsOf (k .header)) (l .reply-is) ∙ go (c .reply .answer) refl);
         }
       where
-        go : (n : ℕ) → c .reply .answer ≡ n → numbersOf (c .reply .header) ≡ wordsAfter words n (c .reply .header)
+        go : (n : ℕ) → c .reply .answer ≡ n → wordsOf (c .reply .header) ≡ wordsAfter words n (c .reply .header)
         go zero q = refl
-        go (suc n) q = ap numbersOf (hands (omega (arith, q))) ∙ words-hold words e
+        go (suc n) q = ap wordsOf (hands (omega (arith, q))) ∙ words-hold words e
 
     -- a card that is refused, and one that is accepted
     pub card-refused : {refusal : Refusal} → made .answer ≡ Refused refusal → r ≡ numberOf refusal → ChangesInC words m c r words m′
@@ -148,5 +145,5 @@ module _ {words : List ℕ} {m : Memory} {c : Outcome Returned} where
         let zero-is : c .reply .answer ≡ 0 = sym (ap (λ (k : Returned). k .answer) (l .reply-is)) ∙ ap answerOf told in
         record {
           meets = rw (ten words e) (called (λ (x : Returned). x .answer) l (b .number));
-          words-after = rw (ten words e, zero-is) (b .words-after ∙ ap (λ (k : Returned). numbersOf (k .header)) (l .reply-is));
+          words-after = rw (ten words e, zero-is) (b .words-after ∙ ap (λ (k : Returned). wordsOf (k .header)) (l .reply-is));
         }

@@ -10,11 +10,15 @@ use Rattle.model.specs.States.{Reply, Yes, No, Spent, Refused}
 use Rattle.model.specs.Routes.{Routed, Yes as RoutedYes, No as RoutedNo, Refused as RoutedRefused}
 use Rattle.model.specs.Replies.{answerOf}
 use Rattle.calls.specs.Call.{Header, Memory, Outcome, Meets, Returned, Wrote, Length, Refused as NotWritten}
+use Rattle.store.specs.Store.{numbers}
 use Rattle.store.specs.declared.Changed.{Changed}
 
--- the record that the numbers lent hold: places, k and, as "the record gains eight totals" (document 02, Four), these
+-- the record that the numbers lent hold: places, k, then the "eight totals" (document 02, Four); and the numbers of a record
 abbrev pub headerIn : List ℕ → Header
 headerIn words = record { size = record { vertices = getD words 0 0; longest = getD words 1 0 }; totals = drop 2 words }
+
+abbrev pub wordsOf : Header → List ℕ
+wordsOf h = h .size .vertices ∷ h .size .longest ∷ h .totals
 
 -- a record has ten numbers; with any other length "the call returns 255 and touches nothing"
 abbrev pub recordNumbers : ℕ
@@ -32,7 +36,7 @@ inC words told other m c = cond (record? words) (record { reply = told (c .reply
 
 -- the numbers lent as record, afterwards: the record handed back if the call is accepted. (A refusal hands back the record as given, or none.)
 abbrev pub wordsAfter : List ℕ → ℕ → Header → List ℕ
-wordsAfter words zero h = h .size .vertices ∷ h .size .longest ∷ h .totals
+wordsAfter words zero h = wordsOf h
 wordsAfter words (suc n) h = words
 
 -- a changing call: 0 or the number of the refusal, the record handed back, and memory afterwards
@@ -43,7 +47,7 @@ pub record ChangesInC (words : List ℕ) (m : Memory) (c : Outcome Returned) (r 
 -- what a changing call of the store hands back: its answer as a number, and its record as the numbers lent
 pub record HandsBack (c : Changed) (r : ℕ) (words : List ℕ) : Type 0 where
   pub number : r ≡ answerOf (c .answer)
-  pub words-after : words ≡ c .header .vertices ∷ c .header .longest ∷ c .header .totals
+  pub words-after : words ≡ wordsOf (numbers (c .header))
 
 -- "0 no, 100 yes, else the number"
 abbrev pub answeredInC : Answered → ℕ

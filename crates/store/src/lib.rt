@@ -1,5 +1,5 @@
 // The store as firmware sees it: every call of documents 01 and 02, for all inputs. Opening, insertion (laying) and removal (lifting) are operations
-// of the header (record): each takes it and hands it back with the answer, its totals counted anew.
+// of the header (record): each takes it and hands it back with the answer, and if it is accepted with totals counted anew.
 use checks::Standing;
 use model::Answer;
 use model::HEAD_BYTES;

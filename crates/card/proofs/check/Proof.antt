@@ -65,7 +65,7 @@ returns-2 c =
           (pass (versioned version)
           (pass (sym (long .before .is-longest .ensures) ∙ long .if3 .taken)
           (pass (sym (body .before .has-edges .ensures) ∙ body .if4 .taken) none))));
-      header = refl;
+      size-is = refl;
       count = c .word2 .ensures;
     }
 

@@ -28,7 +28,7 @@ returns-3 c =
       is =
           read-passes _ _ (p .is) (c .before .before .before .if1 .left) (omega (arith, c .before .before .if2 .left, p .count))
           (sym (c .before .has-room .ensures) ∙ c .if3 .taken);
-      header = p .header;
+      size-is = p .size-is;
       count = p .count;
     }
 

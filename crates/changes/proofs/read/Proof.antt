@@ -74,7 +74,7 @@ returns-2 : tie.Need-returns-2
 returns-2 c =
     let k = c .before .before .before .before .before .before in
     let p = passed (checked (filled k)) in
-    record { meets = read-leaves p (settled (wanted (checked (filled k))) (tried (filled k)) refl (k .settle .ensures)); size = λ _. sym (p .header) }
+    record { meets = read-leaves p (settled (wanted (checked (filled k))) (tried (filled k)) refl (k .settle .ensures)); size = λ _. sym (p .size-is) }
 
 pub read-spec : {M : Type 1} → statement M
 read-spec =

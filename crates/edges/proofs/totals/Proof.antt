@@ -4,18 +4,18 @@ use native.Mathlib.Omega.{arith}
 use borrow.Author.Needs.{needs}
 use Rattle.model.specs.Limits.{mostEdges}
 use Rattle.model.specs.Lists.{from}
-use Rattle.edges.specs.Memory.{labels}
-use Rattle.edges.proofs.Totalling.{both, tallies-small, tallies-totals}
+use Rattle.edges.specs.Memory.{labels, both}
+use Rattle.edges.proofs.Totalling.{counts-small, counts-totals}
 use Rattle.edges.proofs.totals.Statement.{statement}
 use Rattle.edges.proofs.totals.Tie as tie
 
 -- a label's two counts together are no more than the edges there can be
 fits : (c : tie.After-count-labels) (label : ℕ) → label < labels → both (c .count-labels .result) label ≤ mostEdges
-fits c label h = tallies-small (c .count-labels .ensures) (c .before .before .pre) label h
+fits c label h = counts-small (c .count-labels .ensures) (c .before .before .pre) label h
 
 returns : tie.Need-returns
 unfolding from
-returns c = tallies-totals (c .count-labels .ensures)
+returns c = counts-totals (c .count-labels .ensures)
 
 pub totals-spec : {M : Type 1} → statement M
 totals-spec =
