@@ -44,14 +44,14 @@ pub record Tells (vertices : ℕ) (edges l : List ℕ) (s t : ℕ) (work : List 
 -- ---- what the call's checks hand on
 
 -- all have passed, and n edges stand
-pub record SearchPasses (h : Size) (start destination : ℕ) (pattern : List ℕ) (m : Memory) (n : ℕ) : Type 0 where
-  pub is : searchRefusal h start destination pattern m ≡ 0
-  pub layout : LayoutPasses (h .vertices) (h .longest) (m .edges) n
+pub record SearchPasses (size : Size) (start destination : ℕ) (pattern : List ℕ) (m : Memory) (n : ℕ) : Type 0 where
+  pub is : searchRefusal size start destination pattern m ≡ 0
+  pub layout : LayoutPasses (size .vertices) (size .longest) (m .edges) n
   pub room : leastWork ≤ length (m .work)
-  pub start-vertex : start < h .vertices
-  pub destination-vertex : destination < h .vertices
-  pub keyed : Keyed (h .longest) pattern
+  pub start-vertex : start < size .vertices
+  pub destination-vertex : destination < size .vertices
+  pub keyed : Keyed (size .longest) pattern
 
 abbrev pub SearchChecks : Size → (start destination : ℕ) → List ℕ → Memory → Standing → Type 0
-SearchChecks h start destination pattern m (Refused r) = searchRefusal h start destination pattern m ≡ numberOf r
-SearchChecks h start destination pattern m (Edges n) = SearchPasses h start destination pattern m n
+SearchChecks size start destination pattern m (Refused r) = searchRefusal size start destination pattern m ≡ numberOf r
+SearchChecks size start destination pattern m (Edges n) = SearchPasses size start destination pattern m n

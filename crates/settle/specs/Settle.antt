@@ -26,17 +26,17 @@ pub record Saves (edges work work′ : List ℕ) : Type 0 where
   pub work-long : length work′ ≡ length work
 
 -- n rising edges of the graph and then zeros stand in edge memory, and work memory has room for a build
-pub record Settleable (h : Size) (n : ℕ) (edges index work : List ℕ) : Type 0 where
-  pub bounds : Bounds (h .vertices) (h .longest)
+pub record Settleable (size : Size) (n : ℕ) (edges index work : List ℕ) : Type 0 where
+  pub bounds : Bounds (size .vertices) (size .longest)
   pub few : length edges ≤ mostEdges
   pub fits : n ≤ length edges
   pub zeros : edges ≡ filled (length edges) (take n edges)
   pub rises : Rising (take n edges)
-  pub valid : (x : ℕ) → x ∈ take n edges → edge? (h .vertices) x ≡ true
+  pub valid : (x : ℕ) → x ∈ take n edges → edge? (size .vertices) x ≡ true
   pub room : leastWork + length index ≤ length work
   pub narrow : Narrow (savedIn work edges)
 
 -- the answer and memory afterwards are those of settling, from the edge memory that was saved
-abbrev pub Settles : (h : Size) (n : ℕ) (edges index work : List ℕ) (r : Answer) (edges′ index′ work′ : List ℕ) → Type 0
-Settles h n edges index work r edges′ index′ work′ =
-    Meets (settle h (take n edges) (lent (savedIn work edges) index work)) (answerOf r) (lent edges′ index′ work′)
+abbrev pub Settles : (size : Size) (n : ℕ) (edges index work : List ℕ) (r : Answer) (edges′ index′ work′ : List ℕ) → Type 0
+Settles size n edges index work r edges′ index′ work′ =
+    Meets (settle size (take n edges) (lent (savedIn work edges) index work)) (answerOf r) (lent edges′ index′ work′)
