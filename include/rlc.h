@@ -13,7 +13,7 @@
  *            accepted open, insert, remove and read card counts them anew and hands them back in the record, whatever
  *            they were: you need not fill them in before a layout is opened or a card is read. Keep all the numbers
  *            with the edges and the index: with totals that are not those of the edges, rlc_query may reply a wrong no
- *            and is not refused. No refusal depends on totals, and only rlc_query looks at them.
+ *            and is not refused. Only rlc_query looks at totals, and no call is refused for them.
  *   edges    edge memory, 0 to 1,024 slots: one edge a slot, from * 4096 + label * 256 + to, strictly rising, then zeros
  *   index    index memory, any number of slots: one entry a slot, strictly rising, then zeros
  *   work     at least 4,096 numbers; if an index is built (insert, remove, read card), one more for each index
