@@ -8,7 +8,7 @@ extern "C" {
                   index: *mut u64, slots: usize, work: *mut u64, w: usize) -> u32;
     pub fn rlc_remove(record: *mut u32, n: usize, from: u32, label: u32, to: u32, edges: *mut u32, m: usize,
                   index: *mut u64, slots: usize, work: *mut u64, w: usize) -> u32;
-    fn rlc_query(record: *const u32, n: usize, start: u32, destination: u32, pattern: *const u8, p: usize,
+    pub fn rlc_query(record: *const u32, n: usize, start: u32, destination: u32, pattern: *const u8, p: usize,
                  edges: *const u32, m: usize, index: *const u64, slots: usize, work: *mut u64, w: usize) -> u32;
     fn rlc_search(record: *const u32, n: usize, start: u32, destination: u32, pattern: *const u8, p: usize, limit: u32,
                   edges: *const u32, m: usize, work: *mut u64, w: usize) -> u64;
@@ -30,6 +30,8 @@ pub struct Lent {
 }
 
 pub type Change = unsafe extern "C" fn(*mut u32, usize, u32, u32, u32, *mut u32, usize, *mut u64, usize, *mut u64, usize) -> u32;
+#[rustfmt::skip]
+pub type Query = unsafe extern "C" fn(*const u32, usize, u32, u32, *const u8, usize, *const u32, usize, *const u64, usize, *mut u64, usize) -> u32;
 
 impl Lent {
     pub fn new(longest: u32, edges: &[u32], slots: usize) -> Lent {
@@ -58,22 +60,32 @@ impl Lent {
         unsafe { call(self.record.as_mut_ptr(), RECORD_N, x / 4096, x / 256 % 16, x % 256, edges, m, index, slots, work, w) }
     }
 
+    /// How many entries stand.
+    pub fn entries(&self) -> usize {
+        self.index.iter().take_while(|&&x| x != 0).count()
+    }
+
     /// The query with the least work memory.
     pub fn query(&mut self, s: u32, t: u32, pattern: &[u8]) -> u32 {
-        self.query_with(s, t, pattern, self.edges.len())
+        self.query_by(rlc_query, s, t, pattern)
+    }
+
+    /// The same by another version of the call.
+    pub fn query_by(&mut self, call: Query, s: u32, t: u32, pattern: &[u8]) -> u32 {
+        self.query_with(call, s, t, pattern, self.edges.len())
     }
 
     /// The query with so many edge slots.
-    fn query_with(&mut self, s: u32, t: u32, pattern: &[u8], m: usize) -> u32 {
+    fn query_with(&mut self, call: Query, s: u32, t: u32, pattern: &[u8], m: usize) -> u32 {
         let (record, p, n) = (self.record.as_ptr(), pattern.as_ptr(), pattern.len());
         let (edges, index, slots, work) = (self.edges.as_ptr(), self.index.as_ptr(), self.index.len(), self.work.as_mut_ptr());
-        unsafe { rlc_query(record, RECORD_N, s, t, p, n, edges, m, index, slots, work, 4096) }
+        unsafe { call(record, RECORD_N, s, t, p, n, edges, m, index, slots, work, 4096) }
     }
 
     /// What a query by a pattern that repeats itself costs up to check 12 and no further: with 1,025 edge slots, which are not looked at, it is
     /// refused by 3.
     pub fn check(&mut self, s: u32, t: u32, pattern: &[u8]) -> u32 {
-        self.query_with(s, t, pattern, 1025)
+        self.query_with(rlc_query, s, t, pattern, 1025)
     }
 
     /// The plain check with the least work memory.
@@ -93,8 +105,7 @@ impl Lent {
 
 /// An entry of the index at random: the ends that it joins, and its pattern.
 pub fn draw_joined(random: &mut Random, lent: &Lent) -> (u32, u32, Vec<u8>) {
-    let entries = lent.index.iter().take_while(|&&x| x != 0).count() as u32;
-    let entry = lent.index[random.below(entries) as usize];
+    let entry = lent.index[random.below(lent.entries() as u32) as usize];
     let pattern = (0..4).rev().map(|i| (entry >> (4 * i) & 15) as u8).filter(|&label| label > 0).collect();
     let (owner, hub) = ((entry >> 24 & 255) as u32, (entry >> 16 & 255) as u32);
     if entry >> 32 == 0 {

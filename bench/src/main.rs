@@ -19,7 +19,7 @@ extern "C" {
         vertices: u32, longest: u32, start: u32, destination: u32, pattern: *const u8, p: usize,
         edges: *const u32, m: usize, index: *const u64, slots: usize, work: *mut u64, w: usize,
     ) -> u32;
-    fn bench_sort(staged: *mut u64, n: usize, sorted: *mut u64, m: usize);
+    fn bench_sort(xs: *mut u64, n: usize, buffer: *mut u64, m: usize);
 }
 
 /// The proved access order and index, in one go. The layouts have rising edges of 256 vertices, and work memory has 4,096 numbers and
@@ -41,10 +41,10 @@ fn proved_query(longest: u32, s: u32, t: u32, pattern: &[u8], index: &[u64]) -> 
     unsafe { bench_query(VERTICES, longest, s, t, p, n, [].as_ptr(), 0, index.as_ptr(), slots, [].as_mut_ptr(), 0) }
 }
 
-/// The caller's numbers are distinct and below 2^40, as the sort requires.
-fn proved_sort(staged: &mut [u64], sorted: &mut [u64]) {
-    assert_eq!(staged.len(), sorted.len());
-    unsafe { bench_sort(staged.as_mut_ptr(), staged.len(), sorted.as_mut_ptr(), sorted.len()) }
+/// The caller's numbers are distinct and below 2^33, as the sort requires.
+fn proved_sort(xs: &mut [u64], buffer: &mut [u64]) {
+    assert_eq!(xs.len(), buffer.len());
+    unsafe { bench_sort(xs.as_mut_ptr(), xs.len(), buffer.as_mut_ptr(), buffer.len()) }
 }
 
 fn time_build(layout: &Layout, longest: u32, repeats: usize) -> Vec<u64> {
@@ -98,11 +98,11 @@ fn time_sort(n: usize, repeats: usize) {
         seen.insert((random.below(2) as u64) << 32 | owner << 24 | hub << 16 | code);
     }
     let numbers: Vec<u64> = seen.into_iter().collect();
-    let mut sorted = vec![u64::MAX; n];
+    let mut buffer = vec![u64::MAX; n];
     let (mut proved, mut rust) = (Vec::new(), Vec::new());
     for _ in 0..repeats {
-        let mut staged = numbers.clone();
-        proved.push(millis(|| proved_sort(&mut staged, &mut sorted)).0);
+        let mut sorted = numbers.clone();
+        proved.push(millis(|| proved_sort(&mut sorted, &mut buffer)).0);
         let mut other = numbers.clone();
         rust.push(millis(|| other.sort_unstable()).0);
         assert_eq!(sorted, other);

@@ -8,7 +8,7 @@ ghost use lib.ListN.{length, replicate};
 ghost use Rattle.model.specs.Limits.{mostLabel};
 ghost use Rattle.calls.specs.Call.{lent};
 ghost use Rattle.calls.specs.Query.{queryCall};
-ghost use Rattle.sort.specs.Order.{Distinct, FiveBytes, Sorts};
+ghost use Rattle.sort.specs.Order.{Distinct, ThirtyThreeBits, Sorts};
 ghost use Rattle.order.specs.Counting.{Countable, Counts};
 ghost use Rattle.build.specs.Build.{Buildable};
 ghost use Rattle.bench_c.specs.Bench.{BuildsNumber, QueriesNumber};
@@ -82,9 +82,9 @@ pub extern "C" fn bench_query(
 
 // The sort, as sort::sort.
 #[no_mangle]
-pub extern "C" fn bench_sort(staged: &mut [u64], sorted: &mut [u64])
-    requires { ⌜ (length (now staged) ≡ length (now sorted)) × (Distinct (now staged) × FiveBytes (now staged)) ⌝ }
-    ensures { λ _. ⌜ Sorts (now (staged .entry)) (now (sorted .exit)) ⌝ }
+pub extern "C" fn bench_sort(xs: &mut [u64], buffer: &mut [u64])
+    requires { ⌜ (length (now xs) ≡ length (now buffer)) × (Distinct (now xs) × ThirtyThreeBits (now xs)) ⌝ }
+    ensures { λ _. ⌜ Sorts (now (xs .entry)) (now (xs .exit)) ⌝ }
 {
-    sort::sort(staged, sorted);
+    sort::sort(xs, buffer);
 }

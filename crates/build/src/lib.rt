@@ -1,10 +1,15 @@
 // Building the index of a graph. The vertices are numbered anew by their rank in an access order, so that earlier is lower; the entries
 // are staged in work memory, put back to vertices, and written to index memory in rising order.
 use model::LEAST_WORK;
+use model::MOST_EDGES;
 use model::MOST_LONGEST;
+use model::MOST_VERTICES;
 ghost use lib.ListN.{length};
 ghost use Rattle.build.specs.Build.{Buildable, Builds};
 ghost use Rattle.build.specs.Staging.{GraphStages};
+
+// The step rows and the parent's.
+const STEP_ROWS: usize = MOST_VERTICES + MOST_VERTICES;
 
 // How many entries the index has, or that they do not fit.
 pub enum Built {
@@ -24,9 +29,11 @@ fn stage(
     requires { ⌜ Buildable vertices longest (now edges) (now order) room (now w) ⌝ }
     ensures { λ r. ⌜ GraphStages vertices longest (now (edges .entry)) (now (order .entry)) (now (w .entry)) room (now (w .exit)) r ⌝ }
 {
-    let renumbered = renumber::renumber(vertices, edges, order);
     let m = edges.len();
-    let slots = edges::first_slots(vertices, &renumbered[..m]);
+    let mut renumbered = [0u32; MOST_EDGES];
+    let slots = renumber::renumber(vertices, edges, order, &mut renumbered);
+    let mut live = [0u32; MOST_EDGES];
+    steps::clear_rows(w, rows::STEPS, STEP_ROWS);
     rows::fill(w, rows::ROOT);
     suffixes::node(
         &renumbered[..m],
@@ -35,6 +42,7 @@ fn stage(
         0,
         w,
         rows::ROOT,
+        &mut live,
         longest as usize,
         room,
         0,

@@ -1,21 +1,23 @@
 -- The closing of all rows, one after another.
+use mathlib.Core.Path.{_∙_}
 use mathlib.Core.List.{List}
 use mathlib.Core.Logic.{_≢_}
 use Prim.Native.Nat.{ℕ, _+_, _≤_, _<_}
 use native.Mathlib.Omega.{arith}
 use native.Mathlib.Decide.{ℕ-discrete, decLt}
 use Rattle.model.specs.Limits.{mostVertices}
-use Rattle.rows.specs.Region.{openRow, todoRow}
+use Rattle.model.specs.Build.Hubs.{Plus, one}
+use Rattle.rows.specs.Region.{openRow, restRow}
 use Rattle.rows.specs.Rows.{On, KeepsRows, NextVertex, StepsTo, Domain}
-use Rattle.rows.proofs.Rows.{keeps-none, keeps-as, keeps-then, keeps-domain}
-use Rattle.closure.specs.Closing.{Plus, one, Closes}
+use Rattle.rows.proofs.Rows.{keeps-none, keeps-as, keeps-then, keeps-cell, keeps-domain}
+use Rattle.closure.specs.Closing.{Closable, Closes}
 use Rattle.closure.specs.Turns.{WholeRow, ClosesRow}
-use Rattle.closure.proofs.Plus.{plus-then, plus-from, plus-in, plus-flat, plus-map}
+use Rattle.closure.proofs.Plus.{plus-then, plus-from, plus-onward, plus-in, plus-flat, plus-map}
 use Rattle.closure.proofs.Looked.{beside-step}
 
 -- from w to v the rows before a have been closed
 pub record Closing (w v : List ℕ) (a : ℕ) : Type 0 where
-  pub keeps : KeepsRows w v (λ r. (mostVertices ≤ r) × ((r ≢ openRow) × (r ≢ todoRow)))
+  pub keeps : KeepsRows w v (λ r. (mostVertices ≤ r) × (r ≢ openRow))
   pub old : (x b : ℕ) → StepsTo w x b → StepsTo v x b
   pub only : (x b : ℕ) → StepsTo v x b → Plus (StepsTo w) x b
   pub whole : (x : ℕ) → x < a → WholeRow v x
@@ -30,10 +32,14 @@ whole-all {w} {a} f = plus-in (StepsTo w a) (f .through) (λ m s. s)
 module _ {w v : List ℕ} {a : ℕ} (m : Closing w v a) where
   pub closing-domain : {d : ℕ} → Domain w d → Domain v d
   closing-domain {d} c =
-      keeps-domain (m .keeps) (omega (arith, c .least), (λ e. omega (arith, c .most), λ e. omega (arith, c .most))) (λ x b s. plus-from (On w d) (c .starts) (m .only x b s)) c
+      keeps-domain (m .keeps) (omega (arith, c .least), λ e. omega (arith, c .most)) (λ x b s. plus-from (On w d) (c .starts) (m .only x b s)) c
 
-  -- a vertex that is not in row d steps nowhere
-  pub closing-on : {d a′ : ℕ} → Domain w d → NextVertex v d a a′ → Closing w v a′
+  -- a vertex with two steps from it has two first, so it is in row `rest`; the row of any other is whole as it is
+  rests : {d x y b : ℕ} → Closable w d → StepsTo v x y → StepsTo v y b → On v restRow x
+  rests {x = x} c s r =
+      keeps-cell (m .keeps) restRow (omega arith, λ e. omega arith) x (s .from) ∙ c .rest x (plus-onward (m .only _ _ s) (m .only _ _ r))
+
+  pub closing-on : {d a′ : ℕ} → Closable w d → NextVertex v restRow a a′ → Closing w v a′
   closing-on c n =
       record {
         keeps = m .keeps;
@@ -41,7 +47,7 @@ module _ {w v : List ℕ} {a : ℕ} (m : Closing w v a) where
         only = m .only;
         whole = λ x h. elim (decLt x a) [
           | yes l ↦ m .whole x l
-          | no l ↦ record { through = λ y b s r. absurd (n .gap x (omega arith) h (closing-domain c .starts x y s)) }
+          | no l ↦ record { through = λ y b s r. absurd (n .gap x (omega arith) h (rests c s r)) }
         ];
       }
 

@@ -1,15 +1,15 @@
 -- The closing of row a, turn by turn.
-use mathlib.Core.Path.{_≡_, refl, sym, _∙_}
+use mathlib.Core.Path.{_≡_}
 use mathlib.Core.List.{List}
 use mathlib.Core.Logic.{_⊎_, inl, inr, ⊎-elim, ⊎-map, _↔_, _≢_}
 use Prim.Native.Nat.{ℕ, _<_}
 use native.Mathlib.Omega.{arith}
 use native.Mathlib.Decide.{ℕ-discrete}
 use Rattle.model.specs.Limits.{mostVertices}
-use Rattle.rows.specs.Region.{openRow, todoRow}
-use Rattle.rows.specs.Rows.{cell, On, KeepsRows, Becomes, NextVertex, StepsTo}
-use Rattle.rows.proofs.Rows.{cell-lt, cell-cases, next-none, keeps-none, keeps-as, keeps-then, keeps-cell, keeps-step, keeps-steps}
-use Rattle.closure.specs.Closing.{Plus, one}
+use Rattle.model.specs.Build.Hubs.{Plus, one}
+use Rattle.rows.specs.Region.{openRow}
+use Rattle.rows.specs.Rows.{cell, On, KeepsRows, Becomes, FirstInBoth, StepsTo}
+use Rattle.rows.proofs.Rows.{cell-lt, cell-cases, keeps-none, keeps-then, keeps-step, keeps-steps}
 use Rattle.closure.specs.Turns.{WholeRow, RowClosable, Beside, ClosesRow, TakesIn}
 use Rattle.closure.proofs.Plus.{plus-then, plus-in, plus-as}
 use Rattle.closure.proofs.Sums.{sum, sum-falls}
@@ -24,7 +24,7 @@ pub record Looked (w v : List ℕ) (a : ℕ) : Type 0 where
 
 -- a vertex whose row is not the one that is closed steps where it did
 pub beside-step : {w v : List ℕ} {a x : ℕ} → KeepsRows w v (Beside a) → x < mostVertices → x ≢ a → (b : ℕ) → StepsTo v x b ↔ StepsTo w x b
-beside-step h l n = keeps-step h (n, (λ e. omega arith, λ e. omega arith))
+beside-step h l n = keeps-step h (n, λ e. omega arith)
 
 -- ---- every vertex that steps anywhere is opened
 module _ {w w₁ : List ℕ} {d a : ℕ} (r : RowClosable w d a) (j : Becomes w w₁ openRow (On w d)) where
@@ -51,67 +51,45 @@ module _ {w w₁ : List ℕ} {d a : ℕ} (r : RowClosable w d a) (j : Becomes w 
       }
 
 -- ---- a turn: p is the first of row a's open vertices
-module _ {w v v₁ : List ℕ} {a p : ℕ} (m : Looked w v a) (h : a < mostVertices)
-    (t : Becomes v v₁ todoRow (λ k. On v a k × On v openRow k)) (n : NextVertex v₁ todoRow 0 p) where
-  opens : (x : ℕ) → x < mostVertices → cell v₁ openRow x ≡ cell v openRow x
-  opens = keeps-cell (t .keeps) openRow (λ e. omega arith)
-
-  steps : (b : ℕ) → StepsTo v₁ a b ↔ StepsTo v a b
-  steps = keeps-step (t .keeps) (λ e. omega arith)
-
-  gathered : Looked w v₁ a
-  gathered =
-      record {
-        keeps = keeps-then (m .keeps) (keeps-as (λ r x. x .1 .1) (t .keeps));
-        old = λ b s. steps b .1 (m .old b s);
-        only = λ b s. m .only b (steps b .0 s);
-        looked = λ x y s. ⊎-map (λ o. opens x (s .from) ∙ o) (steps y .1) (m .looked x y s);
-      }
-
+module _ {w v : List ℕ} {a p : ℕ} (m : Looked w v a) (n : FirstInBoth v a openRow p) where
   -- if there is none, row a is closed
-  pub looked-all : p ≡ mostVertices → ClosesRow w v₁ a
-  looked-all e = record { keeps = gathered .keeps; is = λ b. (gathered .only b, plus-in (StepsTo v₁ a) on (gathered .old)) }
+  pub looked-all : p ≡ mostVertices → ClosesRow w v a
+  looked-all e = record { keeps = m .keeps; is = λ b. (m .only b, plus-in (StepsTo v a) on (m .old)) }
     where
-      on : (x y : ℕ) → StepsTo v₁ a x → StepsTo w x y → StepsTo v₁ a y
-      on x y s d = ⊎-elim
-          (λ o. absurd (next-none n refl e x (s .to) (t .row .all x (s .to) (steps x .0 s .on, sym (opens x (s .to)) ∙ o))))
-          (λ q. q)
-          (gathered .looked x y d)
+      on : (x y : ℕ) → StepsTo v a x → StepsTo w x y → StepsTo v a y
+      on x y s d = ⊎-elim (λ o. absurd (n .gap x (omega (arith, s .to)) (s .on) o)) (λ q. q) (m .looked x y d)
 
-  module _ (l : p < mostVertices) {v₂ : List ℕ} (k : TakesIn v₁ v₂ a p) where
-    found : On v a p × On v openRow p
-    found = t .row .only p l (n .here l)
-
+  module _ (l : p < mostVertices) {v′ : List ℕ} (k : TakesIn v v′ a p) where
     -- the steps of p, as they were first
-    own : (b : ℕ) → StepsTo w p b → StepsTo v₁ a b ⊎ StepsTo v₁ p b
+    own : (b : ℕ) → StepsTo w p b → StepsTo v a b ⊎ StepsTo v p b
     own b s = elim (ℕ-discrete p a) [
-      | yes e ↦ inl (gathered .old b (rw e at s))
-      | no d ↦ inr (beside-step (gathered .keeps) l d b .1 s)
+      | yes e ↦ inl (m .old b (rw e at s))
+      | no d ↦ inr (beside-step (m .keeps) l d b .1 s)
     ]
 
-    pub looked-more : ((x : ℕ) → x < a → WholeRow w x) → Looked w v₂ a
-    looked-more f =
+    pub looked-more : a < mostVertices → ((x : ℕ) → x < a → WholeRow w x) → Looked w v′ a
+    looked-more h f =
         record {
-          keeps = keeps-then (gathered .keeps) (k .keeps);
-          old = λ b s. k .is b .1 (inl (gathered .old b s));
-          only = λ b s. ⊎-elim (gathered .only b) (via b) (k .is b .0 s);
-          looked = λ x y s. ⊎-elim (taken x y s) (λ q. inr (k .is y .1 (inl q))) (gathered .looked x y s);
+          keeps = keeps-then (m .keeps) (k .keeps);
+          old = λ b s. k .is b .1 (inl (m .old b s));
+          only = λ b s. ⊎-elim (m .only b) (via b) (k .is b .0 s);
+          looked = λ x y s. ⊎-elim (taken x y s) (λ q. inr (k .is y .1 (inl q))) (m .looked x y s);
         }
       where
-        via : (b : ℕ) → StepsTo v₁ p b → Plus (StepsTo w) a b
+        via : (b : ℕ) → StepsTo v p b → Plus (StepsTo w) a b
         via b s = elim (ℕ-discrete p a) [
-          | yes e ↦ gathered .only b (rw e at s)
-          | no d ↦ plus-then (m .only p (record { from = h; to = l; on = found .0 })) (one (beside-step (gathered .keeps) l d b .0 s))
+          | yes e ↦ m .only b (rw e at s)
+          | no d ↦ plus-then (m .only p (record { from = h; to = l; on = n .here l .0 })) (one (beside-step (m .keeps) l d b .0 s))
         ]
 
         -- a vertex that is open no more
-        taken : (x y : ℕ) → StepsTo w x y → On v₁ openRow x → On v₂ openRow x ⊎ StepsTo v₂ a y
+        taken : (x y : ℕ) → StepsTo w x y → On v openRow x → On v′ openRow x ⊎ StepsTo v′ a y
         taken x y s o = ⊎-map (λ q. q) (λ q. k .is y .1 (⊎-elim (λ e. own y (rw e at s)) (λ g. own y (closed (g .0) (g .1))) q)) (k .left x (s .from) o)
           where
-            closed : p < a → On v₁ p x → StepsTo w p y
-            closed g q = f p g .through x y (beside-step (gathered .keeps) l (λ e. omega arith) x .0 (record { from = l; to = s .from; on = q })) s
+            closed : p < a → On v p x → StepsTo w p y
+            closed g q = f p g .through x y (beside-step (m .keeps) l (λ e. omega arith) x .0 (record { from = l; to = s .from; on = q })) s
 
-    pub looked-falls : sum (cell v₂ openRow) mostVertices < sum (cell v openRow) mostVertices
+    pub looked-falls : sum (cell v′ openRow) mostVertices < sum (cell v openRow) mostVertices
     looked-falls = sum-falls mostVertices p l
-        (λ j i. ⊎-elim (λ e. omega arith) (λ e. omega (arith, k .less j i e, opens j i)) (cell-cases v₂ openRow j))
-        (omega (arith, found, k .gone, cell-lt v₂ openRow p))
+        (λ j i. ⊎-elim (λ e. omega arith) (λ e. omega (arith, k .less j i e)) (cell-cases v′ openRow j))
+        (omega (arith, n .here l .1, k .gone, cell-lt v′ openRow p))

@@ -1,7 +1,7 @@
 -- Laws of one step or more.
 use mathlib.Core.Logic.{_↔_}
 use Prim.Native.Nat.{ℕ}
-use Rattle.closure.specs.Closing.{Plus, one, more}
+use Rattle.model.specs.Build.Hubs.{Plus, one, more, Onward}
 
 pub plus-then : {R : ℕ → ℕ → Type 0} {a m b : ℕ} → Plus R a m → Plus R m b → Plus R a b
 plus-then (one s) r = more s r
@@ -11,6 +11,13 @@ plus-then (more s q) r = more s (plus-then q r)
 pub plus-from : {R : ℕ → ℕ → Type 0} (P : ℕ → Type 0) → ((a b : ℕ) → R a b → P a) → {a b : ℕ} → Plus R a b → P a
 plus-from P f (one s) = f _ _ s
 plus-from P f (more s q) = f _ _ s
+
+-- a second step follows a step from a if one step or more lead from a to a vertex that steps anywhere
+pub plus-onward : {R : ℕ → ℕ → Type 0} {a m b : ℕ} → Plus R a m → Plus R m b → Onward R a
+plus-onward (one s) (one t) = record { middle = _; end = _; first = s; second = t }
+plus-onward (one s) (more t q) = record { middle = _; end = _; first = s; second = t }
+plus-onward (more s (one t)) r = record { middle = _; end = _; first = s; second = t }
+plus-onward (more s (more t q)) r = record { middle = _; end = _; first = s; second = t }
 
 -- P holds of what a steps to, and of what any vertex of P steps to
 pub plus-in : {R : ℕ → ℕ → Type 0} (P : ℕ → Type 0) → ((m b : ℕ) → P m → R m b → P b) → {a b : ℕ} → ((m : ℕ) → R a m → P m) → Plus R a b → P b

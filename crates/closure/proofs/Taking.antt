@@ -12,7 +12,7 @@ use Rattle.rows.proofs.Rows.{on-dec, keeps-as, keeps-then, keeps-cell, keeps-st
 use Rattle.closure.specs.Turns.{Beside, TakesIn}
 
 pub beside-open : {w w′ : List ℕ} {a : ℕ} {P : ℕ → Type 0} → Becomes w w′ openRow P → KeepsRows w w′ (Beside a)
-beside-open b = keeps-as (λ r x. x .1 .0) (b .keeps)
+beside-open b = keeps-as (λ r x. x .1) (b .keeps)
 
 module _ {w w₁ w₂ : List ℕ} {a p : ℕ} (h : a < mostVertices) (l : p < mostVertices) where
   pub takes-one : Becomes w w₁ a (λ k. On w a k ⊎ On w p k) → Becomes w₁ w₂ openRow (λ k. On w₁ openRow k × (k ≢ p)) → TakesIn w w₂ a p
@@ -50,6 +50,6 @@ module _ {w w₁ w₂ : List ℕ} {a p : ℕ} (h : a < mostVertices) (l : p < mo
 
       still : (x : ℕ) → x < mostVertices → On w₁ openRow x → On w₂ openRow x ⊎ ((x ≡ p) ⊎ ((p < a) × On w p x))
       still x k o = elim (on-dec w₁ p x) [
-        | yes y ↦ inr (inr (d, sym (keeps-cell (t .keeps) p (λ e. omega arith, (λ e. omega arith, λ e. omega arith)) x k) ∙ y))
+        | yes y ↦ inr (inr (d, sym (keeps-cell (t .keeps) p (λ e. omega arith, λ e. omega arith) x k) ∙ y))
         | no n ↦ inl (u .row .all x k (o, n))
       ]

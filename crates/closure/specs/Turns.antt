@@ -4,9 +4,9 @@ use mathlib.Core.List.{List}
 use mathlib.Core.Logic.{_⊎_, _↔_, _≢_}
 use Prim.Native.Nat.{ℕ, _<_}
 use Rattle.model.specs.Limits.{mostVertices}
-use Rattle.rows.specs.Region.{openRow, todoRow}
+use Rattle.model.specs.Build.Hubs.{Plus}
+use Rattle.rows.specs.Region.{openRow}
 use Rattle.rows.specs.Rows.{On, KeepsRows, StepsTo, Domain}
-use Rattle.closure.specs.Closing.{Plus}
 
 -- row a has every step of its vertices
 pub record WholeRow (w : List ℕ) (a : ℕ) : Type 0 where
@@ -20,7 +20,7 @@ pub record RowClosable (w : List ℕ) (d a : ℕ) : Type 0 where
 
 -- the rows that the closing of row a keeps
 abbrev pub Beside : ℕ → ℕ → Type 0
-Beside a r = (r ≢ a) × ((r ≢ openRow) × (r ≢ todoRow))
+Beside a r = (r ≢ a) × (r ≢ openRow)
 
 -- row a has become all that one step or more led to from a
 pub record ClosesRow (w w′ : List ℕ) (a : ℕ) : Type 0 where

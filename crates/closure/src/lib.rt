@@ -3,8 +3,7 @@ use model::MOST_VERTICES;
 ghost use Prim.Native.Nat.{_≤_, _<_};
 ghost use lib.ListN.{length};
 ghost use Rattle.model.specs.Limits.{mostVertices, leastWork};
-ghost use Rattle.rows.specs.Rows.{Domain};
-ghost use Rattle.closure.specs.Closing.{Closes};
+ghost use Rattle.closure.specs.Closing.{Closable, Closes};
 ghost use Rattle.closure.specs.Turns.{RowClosable, ClosesRow, TakesIn};
 
 // Merges row p into row a. Vertex p is open no more, nor is any of row p if that row is closed already.
@@ -26,8 +25,7 @@ fn close_row(w: &mut [u64], domain: usize, a: usize)
 {
     rows::copy(w, rows::OPEN, domain);
     loop {
-        rows::intersect(w, rows::TODO, a, rows::OPEN);
-        let p = rows::next(w, rows::TODO, 0);
+        let p = rows::common(w, a, rows::OPEN);
         if p == MOST_VERTICES {
             return;
         }
@@ -35,14 +33,15 @@ fn close_row(w: &mut [u64], domain: usize, a: usize)
     }
 }
 
-// Closes the step rows. The vertices that step anywhere are in row `domain`.
+// Closes the step rows. The vertices that step anywhere are in row `domain`, and those that a second step follows in row REST: the rows of
+// the others are closed as they are, and lent to these.
 pub fn close(w: &mut [u64], domain: usize)
-    requires { ⌜ Domain (now w) domain ⌝ }
+    requires { ⌜ Closable (now w) domain ⌝ }
     ensures { λ _. ⌜ Closes (now (w .entry)) (now (w .exit)) ⌝ }
 {
-    let mut a = rows::next(w, domain, 0);
+    let mut a = rows::next(w, rows::REST, 0);
     while a < MOST_VERTICES {
         close_row(w, domain, a);
-        a = rows::next(w, domain, a + 1);
+        a = rows::next(w, rows::REST, a + 1);
     }
 }

@@ -1,2 +1,3 @@
 pub mod Memory
 pub mod Slots
+pub mod Grouped

@@ -52,6 +52,14 @@ module _ {g : Graph} {order l : List ℕ} {s t : ℕ} where
     λ (r, h, f). earliest-of r (stop-start r) (le-refl _) h f,
   )
 
+  -- where no walk goes on from a vertex between, the two ends are the only stops: the entry follows from their ranks
+  pub earliest-lone : ((v : ℕ) → Runs g l s v → Runs g l v t → ⊥) → Runs g l s t
+      → (Earliest g order l s t t ↔ rank order t ≤ rank order s) × (Earliest g order l s t s ↔ rank order s ≤ rank order t)
+  earliest-lone none r = (
+    (λ e. earliest-end .0 e .1, λ h. earliest-end .1 (r, h, λ v p q. absurd (none v p q))),
+    (λ e. earliest-start .0 e .1, λ h. earliest-start .1 (r, h, λ v p q. absurd (none v p q))),
+  )
+
 -- the entries with one pattern
 pub data OfPattern (g : Graph) (order l : List ℕ) (e : ℕ) : Type 0 where
   out : (s t : ℕ) → s < g .vertices → t < g .vertices → Earliest g order l s t t → e ≡ outEntry s t l → OfPattern g order l e

@@ -14,21 +14,17 @@ use Rattle.model.proofs.Lists.{getD-in, getD-map}
 use Rattle.model.proofs.Ranks.{rank-at, names-length}
 use Rattle.model.proofs.Renumber.{entry-fields}
 use Rattle.memory.proofs.Mix.{Mixed, front-none, front-turn}
-use Rattle.sort.specs.Order.{narrowBits, Distinct, FiveBytes}
+use Rattle.sort.specs.Order.{narrowBits, Distinct, ThirtyThreeBits}
 use Rattle.output.specs.Output.{Translatable}
 
 -- ---- a loop that puts f x for each x
 
-pub map-start : (f : ℕ → ℕ) (l : List ℕ) → Mixed (map f l) l l 0
-map-start f l = front-none (length-map l f)
+pub map-start : (f : ℕ → ℕ) (l : List ℕ) {to : List ℕ} → length l ≡ length to → Mixed (map f l) to to 0
+map-start f l e = front-none (length-map l f ∙ e)
 
-module _ (f : ℕ → ℕ) {l cur : List ℕ} {i : ℕ} (m : Mixed (map f l) l cur i) (h : i < length cur) where
-  -- what is to be put stands there still
-  pub waits : getD cur i 0 ∈ l
-  waits = rw (m .back i (omega arith)) (getD-in l i (omega (arith, m .size)))
-
-  pub map-turn : {v : ℕ} → v ≡ f (getD cur i 0) → Mixed (map f l) l (set cur i v) (i + 1)
-  map-turn e = front-turn m h (e ∙ ap f (m .back i (omega arith)) ∙ sym (getD-map f l i (omega (arith, m .size))))
+pub map-turn : (f : ℕ → ℕ) (l : List ℕ) {to cur : List ℕ} {i v : ℕ} → Mixed (map f l) to cur i → i < length l → v ≡ f (getD l i 0)
+    → Mixed (map f l) to (set cur i v) (i + 1)
+map-turn f l {i = i} m h e = front-turn m (omega (arith, m .same, m .size, length-map l f)) (e ∙ sym (getD-map f l i h))
 
 -- ---- what stays true
 
@@ -59,7 +55,7 @@ module _ {order staged : List ℕ} (t : Translatable order staged) where
         × (hubOf (translate order x) ≡ getD order (hubOf x) 0) × (codeOf (translate order x) ≡ codeOf x)
     fields = entry-fields (sideOf x) _ _ (codeOf x) owner-small hub-small (omega arith)
 
-  pub translate-narrow : FiveBytes (map (translate order) staged)
+  pub translate-narrow : ThirtyThreeBits (map (translate order) staged)
   translate-narrow = record { small = λ y m. let (x, k, e) = Memᴰ·of-map (translate order) staged m in rw e at (translate-small x k) }
 
   -- an order that names each vertex once tells the ranks apart

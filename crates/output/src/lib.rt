@@ -24,15 +24,14 @@ fn put_one(order: &[u8], x: u64) -> u64
     x / SIDE_UNIT * SIDE_UNIT + owner * OWNER_UNIT + hub * HUB_UNIT + x % HUB_UNIT
 }
 
-// Puts back owner and hub of each staged entry: vertex order[r] for rank r.
-fn put_back(order: &[u8], staged: &mut [u64])
-    requires { ⌜ Translatable (now order) (now staged) ⌝ }
-    ensures { λ _. ⌜ now (staged .exit) ≡ map (translate (now (order .entry))) (now (staged .entry)) ⌝ }
+// Puts the staged entries to `to`, with owner and hub put back: vertex order[r] for rank r.
+fn put_back(order: &[u8], staged: &[u64], to: &mut [u64])
+    requires { ⌜ Translatable (now order) (now staged) × (length (now staged) ≡ length (now to)) ⌝ }
+    ensures { λ _. ⌜ now (to .exit) ≡ map (translate (now (order .entry))) (now (staged .entry)) ⌝ }
 {
     let mut i = 0;
     while i < staged.len() {
-        let x = staged[i];
-        staged[i] = put_one(order, x);
+        to[i] = put_one(order, staged[i]);
         i += 1;
     }
 }
@@ -42,8 +41,8 @@ pub fn write(order: &[u8], staged: &mut [u64], index: &mut [u64])
     requires { ⌜ IndexWritable (now order) (now staged) (now index) ⌝ }
     ensures { λ _. ⌜ WritesIndex (map (translate (now (order .entry))) (now (staged .entry))) (now (index .entry)) (now (index .exit)) ⌝ }
 {
-    put_back(order, staged);
     let n = staged.len();
-    sort::sort(staged, &mut index[..n]);
+    put_back(order, staged, &mut index[..n]);
+    sort::sort(&mut index[..n], staged);
     memory::clear_u64(&mut index[n..]);
 }

@@ -1,2 +1,2 @@
-pub mod Clearing
+pub mod Stepping
 pub mod Patterning

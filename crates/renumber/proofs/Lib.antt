@@ -1,4 +1,5 @@
 pub mod Inverting
-pub mod Collecting
+pub mod Starting
+pub mod Placing
+pub mod Grouping
 pub mod Renumbering
-pub mod Visiting

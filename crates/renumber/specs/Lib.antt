@@ -1,2 +1,2 @@
 pub mod Ranked
-pub mod Collecting
+pub mod Placing

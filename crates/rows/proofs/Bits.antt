@@ -99,10 +99,10 @@ pub record Lowest (x t : ℕ) : Type 0 where
   pub here : bit x t ≡ 1
   pub before : (i : ℕ) → i < t → bit x i ≡ 1 → ⊥
 
-bit-suc : (x i : ℕ) → bit x (suc i) ≡ bit (x / 2) i
+pub bit-suc : (x i : ℕ) → bit x (suc i) ≡ bit (x / 2) i
 bit-suc x i = ap (λ (z : ℕ). z % 2) (ap (λ (z : ℕ). x / z) (pow-succ' 2 i) ∙ sym (div-div-eq-div-mul x 2 (2 ^ i)))
 
-bit-zero : (x : ℕ) → bit x 0 ≡ x % 2
+pub bit-zero : (x : ℕ) → bit x 0 ≡ x % 2
 bit-zero x = rw (pow-zero, div-one)
 
 lowest-suc : {x t : ℕ} → x % 2 ≡ 0 → Lowest (x / 2) t → Lowest x (suc t)

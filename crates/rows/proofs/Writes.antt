@@ -7,7 +7,7 @@ use Prim.Native.Nat.{ℕ, _+_, _-_, _*_, _/_, _%_, _^_, _<_}
 use native.Mathlib.Nat.{add-zero}
 use native.Mathlib.Omega.{arith}
 use native.Mathlib.Decide.{ℕ-discrete}
-use lib.Bits.{bitAnd, bitOr, and-zero-r, or-zero-r, xor-zero-r}
+use lib.Bits.{bitOr, and-zero-r, or-zero-r, xor-zero-r}
 use lib.Dec.{eqb}
 use borrow.Author.Tests.{eq-eqb, ne-eqb}
 use lib.ListN.{getD, set, length-set}
@@ -18,7 +18,7 @@ use Rattle.rows.specs.Region.{rowNumbers}
 use Rattle.rows.specs.Rows.{cell, On, Has, KeepsRows, Becomes}
 use Rattle.rows.specs.Four.{without, paired, loaded, stored}
 use Rattle.rows.specs.declared.Words.{Words}
-use Rattle.rows.proofs.Bits.{bit, one, no-bit, full-bit, or-iff, and-iff, without-iff, one-iff}
+use Rattle.rows.proofs.Bits.{bit, one, no-bit, full-bit, or-iff, without-iff, one-iff}
 
 -- w′ is w with the first n numbers of row r made those of v
 record Storing (w w′ : List ℕ) (r : ℕ) (v : ℕ → ℕ) (n : ℕ) : Type 0 where
@@ -85,10 +85,6 @@ module _ {w w′ : List ℕ} {x a b : ℕ} {p q : Words} (h : Has w x × (Has w 
   pub union-is : w′ ≡ stored w x (paired bitOr p q) → Becomes w w′ x (λ k. On w a k ⊎ On w b k)
   unfolding cell
   union-is = paired-is bitOr (λ j _. or-iff _ _ (j % 64))
-
-  pub intersect-is : w′ ≡ stored w x (paired bitAnd p q) → Becomes w w′ x (λ k. On w a k × On w b k)
-  unfolding cell
-  intersect-is = paired-is bitAnd (λ j _. and-iff _ _ (j % 64))
 
   pub subtract-is : w′ ≡ stored w x (paired without p q) → Becomes w w′ x (λ k. On w a k × (On w b k → ⊥))
   unfolding cell

@@ -37,8 +37,8 @@ childRows = rootRow + 1
 abbrev pub openRow : ℕ
 openRow = childRows + mostLongest * mostLabel
 
-abbrev pub todoRow : ℕ
-todoRow = openRow + 1
+abbrev pub restRow : ℕ
+restRow = openRow + 1
 
 abbrev pub pickedRow : ℕ
-pickedRow = todoRow + 1
+pickedRow = restRow + 1

@@ -51,6 +51,12 @@ pub record NextVertex (w : List ℕ) (r p q : ℕ) : Type 0 where
   pub gap : (j : ℕ) → p ≤ j → j < q → On w r j → ⊥
   pub here : q < mostVertices → On w r q
 
+-- q is the first vertex that is both in row a and in row b, or 256
+pub record FirstInBoth (w : List ℕ) (a b q : ℕ) : Type 0 where
+  pub high : q ≤ mostVertices
+  pub gap : (j : ℕ) → j < q → On w a j → On w b j → ⊥
+  pub here : q < mostVertices → On w a q × On w b q
+
 -- ---- the step rows
 
 -- vertex a steps to vertex b: b is in row a

@@ -7,7 +7,7 @@ ghost use mathlib.Core.Path.{_≡_};
 ghost use mathlib.Core.Logic.{_⊎_};
 ghost use Prim.Native.Nat.{_≤_, _<_};
 ghost use Rattle.model.specs.Limits.{mostVertices};
-ghost use Rattle.rows.specs.Rows.{cell, On, Has, Becomes, NextVertex};
+ghost use Rattle.rows.specs.Rows.{cell, On, Has, Becomes, NextVertex, FirstInBoth};
 ghost use Rattle.rows.specs.Four.{loaded, stored};
 
 // The bits of a number, and the numbers of a row.
@@ -28,9 +28,9 @@ pub const CHILDREN: usize = ROOT + 1;
 
 pub const OPEN: usize = CHILDREN + MOST_LONGEST * MOST_LABEL;
 
-pub const TODO: usize = OPEN + 1;
+pub const REST: usize = OPEN + 1;
 
-pub const PICKED: usize = TODO + 1;
+pub const PICKED: usize = REST + 1;
 
 // The first of the numbers that edge memory is saved in.
 pub const SAVED: usize = SAVED_ROWS * ROW;
@@ -97,7 +97,7 @@ fn store(w: &mut [u64], r: usize, v: Words)
     w[i + 3] = v.d;
 }
 
-// Makes row x the vertices in row a or row b; in both; in row a and not in row b. x may be a or b.
+// Makes row x the vertices in row a or row b; in row a and not in row b. x may be a or b.
 pub fn union(w: &mut [u64], x: usize, a: usize, b: usize)
     requires { ⌜ Has (now w) x × (Has (now w) a × Has (now w) b) ⌝ }
     ensures { λ _. ⌜ Becomes (now (w .entry)) (now (w .exit)) x (λ k. On (now (w .entry)) a k ⊎ On (now (w .entry)) b k) ⌝ }
@@ -109,21 +109,6 @@ pub fn union(w: &mut [u64], x: usize, a: usize, b: usize)
         b: p.b | q.b,
         c: p.c | q.c,
         d: p.d | q.d,
-    };
-    store(w, x, v);
-}
-
-pub fn intersect(w: &mut [u64], x: usize, a: usize, b: usize)
-    requires { ⌜ Has (now w) x × (Has (now w) a × Has (now w) b) ⌝ }
-    ensures { λ _. ⌜ Becomes (now (w .entry)) (now (w .exit)) x (λ k. On (now (w .entry)) a k × On (now (w .entry)) b k) ⌝ }
-{
-    let p = load(w, a);
-    let q = load(w, b);
-    let v = Words {
-        a: p.a & q.a,
-        b: p.b & q.b,
-        c: p.c & q.c,
-        d: p.d & q.d,
     };
     store(w, x, v);
 }
@@ -193,6 +178,22 @@ pub fn next(w: &[u64], r: usize, p: usize) -> usize
             return q + u64::trailing_zeros(x) as usize;
         }
         q = q / BITS * BITS + BITS;
+    }
+    q
+}
+
+// The first vertex that is both in row a and in row b, or MOST_VERTICES.
+pub fn common(w: &[u64], a: usize, b: usize) -> usize
+    requires { ⌜ Has (now w) a × Has (now w) b ⌝ }
+    ensures { λ q. ⌜ FirstInBoth (now (w .entry)) a b q ⌝ }
+{
+    let mut q = 0;
+    while q < MOST_VERTICES {
+        let x = w[a * ROW + q / BITS] & w[b * ROW + q / BITS];
+        if x != 0 {
+            return q + u64::trailing_zeros(x) as usize;
+        }
+        q += BITS;
     }
     q
 }

@@ -1,4 +1,5 @@
 pub mod Classes
 pub mod Tables
+pub mod Moving
 pub mod Placing
 pub mod Sorting

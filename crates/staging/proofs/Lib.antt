@@ -1,5 +1,7 @@
 pub mod Adding
-pub mod Picking
 pub mod Emitting
-pub mod Owning
+pub mod Striking
 pub mod Passing
+pub mod Stepping
+pub mod Numbers
+pub mod Singles

@@ -5,8 +5,9 @@ use mathlib.Core.Logic.{_≢_}
 use Prim.Native.Nat.{ℕ, _+_, _≤_, _<_}
 use lib.ListN.{length, getD}
 use Rattle.model.specs.Limits.{leastWork, hubUnit}
-use Rattle.rows.specs.Region.{workRows, pickedRow}
-use Rattle.rows.specs.Rows.{KeepsRows, StepsTo, Domain}
+use Rattle.model.specs.Build.Hubs.{Joined}
+use Rattle.rows.specs.Region.{workRows, restRow, pickedRow}
+use Rattle.rows.specs.Rows.{On, KeepsRows, StepsTo}
 
 -- the i-th number staged
 abbrev pub staged : List ℕ → ℕ → ℕ
@@ -53,9 +54,14 @@ pub record Transits (w : List ℕ) : Type 0 where
   pub on : (a b c : ℕ) → StepsTo w a b → StepsTo w b c → StepsTo w a c
 
 -- the step rows are closed, and there is room for the slots
-pub record Stageable (w : List ℕ) (d code slots cnt : ℕ) : Type 0 where
-  pub domain : Domain w d
+pub record Stageable (w : List ℕ) (code slots cnt : ℕ) : Type 0 where
   pub transits : Transits w
   pub code-small : code < hubUnit
   pub count : cnt ≤ slots
   pub room : leastWork + slots ≤ length w
+
+-- e is the entry for a vertex of row `rest` and one to which it steps, with none earlier than both between the two
+pub record RestEntry (w : List ℕ) (code e : ℕ) : Type 0 where
+  pub start : ℕ
+  pub on : On w restRow start
+  pub joined : Joined (StepsTo w) code start e

@@ -1,4 +1,4 @@
--- The entries of one vertex: those with one hub, and those of one owner.
+-- The entries of one start.
 use mathlib.Core.Path.{_≡_}
 use mathlib.Core.List.{List}
 use mathlib.Core.Logic.{_≢_}
@@ -14,12 +14,6 @@ pub record Free (w : List ℕ) (s n y : ℕ) : Type 0 where
   pub step : StepsTo w s y
   pub alone : (v : ℕ) → v < n → StepsTo w s v → StepsTo w v y → ⊥
 
--- row `picked` is, from vertex u on, the vertices to which u steps with none below u between, and nothing else changed
-pub record Picks (w : List ℕ) (u : ℕ) (w′ : List ℕ) : Type 0 where
-  pub keeps : KeepsRows w w′ (λ r. r ≢ pickedRow)
-  pub only : (y : ℕ) → u ≤ y → y < mostVertices → On w′ pickedRow y → Free w u u y
-  pub all : (y : ℕ) → u ≤ y → Free w u u y → On w′ pickedRow y
-
 -- the step rows are closed, and there is room for the slots
 pub record VertexStageable (w : List ℕ) (u code slots cnt : ℕ) : Type 0 where
   pub vertex : u < mostVertices
@@ -27,8 +21,3 @@ pub record VertexStageable (w : List ℕ) (u code slots cnt : ℕ) : Type 0 wher
   pub code-small : code < hubUnit
   pub count : cnt ≤ slots
   pub room : leastWork + slots ≤ length w
-
--- e is an entry of P, and its vertex, as `at` tells it, is u
-pub record Of (P : ℕ → Type 0) (at : ℕ → ℕ) (u e : ℕ) : Type 0 where
-  pub entry : P e
-  pub here : at e ≡ u

@@ -1,21 +1,27 @@
-// Staging: the entries of one pattern from the closed step rows, vertex by vertex: the out entries that it owns, and the in entries whose hub
-// it is.
+// Staging: the entries of one pattern, start by start: those for its steps as they are, if no second step follows them; the others from the
+// closed step rows.
+use model::FROM_UNIT;
 use model::HUB_UNIT;
 use model::LEAST_WORK;
 use model::MOST_VERTICES;
 use model::OWNER_UNIT;
 use model::SIDE_UNIT;
 use rows::PICKED;
+use rows::REST;
+use rows::ROW;
 ghost use mathlib.Core.Path.{_≡_};
-ghost use Prim.Native.Nat.{_≤_, _<_};
-ghost use lib.ListN.{length};
-ghost use Rattle.model.specs.Limits.{mostVertices, leastWork, hubUnit};
+ghost use Prim.Native.Nat.{_<_};
+ghost use Rattle.model.specs.Limits.{mostVertices, hubUnit};
 ghost use Rattle.model.specs.Entries.{entryOf};
-ghost use Rattle.model.specs.Computed.Query.{ownerOf, hubOf};
-ghost use Rattle.model.specs.Build.Hubs.{Picked, EntryBy};
+ghost use Rattle.model.specs.Build.Hubs.{joining, Direct, Joined};
+ghost use Rattle.rows.specs.Region.{rowNumbers};
 ghost use Rattle.rows.specs.Rows.{StepsTo};
-ghost use Rattle.staging.specs.Stage.{Stages, Unpicked, Stageable};
-ghost use Rattle.staging.specs.Vertex.{Picks, VertexStageable, Of};
+ghost use Rattle.staging.specs.Stage.{Stages, Unpicked, Stageable, RestEntry};
+ghost use Rattle.staging.specs.Vertex.{VertexStageable};
+ghost use Rattle.staging.specs.Single.{AllRows, StepsWithin, StepsStageable, SinglesStageable, StagesSingles};
+
+// The bits of a number.
+const BITS: usize = MOST_VERTICES / ROW;
 
 // The number of an entry.
 fn entry(side: u64, owner: usize, hub: usize, code: u64) -> u64
@@ -25,82 +31,122 @@ fn entry(side: u64, owner: usize, hub: usize, code: u64) -> u64
     side * SIDE_UNIT + owner as u64 * OWNER_UNIT + hub as u64 * HUB_UNIT + code
 }
 
-// Makes row PICKED, from vertex u on, the owners of the entries with hub u: the row of u less that of each vertex before u in it.
-fn pick(w: &mut [u64], u: usize)
-    requires { ⌜ (u < mostVertices) × (leastWork ≤ length (now w)) ⌝ }
-    ensures { λ _. ⌜ Picks (now (w .entry)) u (now (w .exit)) ⌝ }
+// The entry for a walk from s to t: the later of the two owns it.
+fn joined(s: usize, t: usize, code: u64) -> u64
+    requires { ⌜ (s < mostVertices) × ((t < mostVertices) × (code < hubUnit)) ⌝ }
+    ensures { λ r. ⌜ r ≡ joining code s t ⌝ }
 {
-    rows::copy(w, PICKED, u);
-    let mut v = rows::next(w, u, 0);
-    while v < u {
-        rows::subtract(w, PICKED, PICKED, v);
-        if rows::next(w, PICKED, u) == MOST_VERTICES {
-            return;
-        }
-        v = rows::next(w, u, v + 1);
+    if s < t {
+        return entry(1, t, s, code);
     }
+    entry(0, s, t, code)
 }
 
-// Stages the in entries with hub u behind the first cnt. Returns how many are staged then, or slots + 1 if there are more than slots.
-fn stage_hub(w: &mut [u64], u: usize, code: u64, slots: usize, cnt: usize) -> usize
-    requires { ⌜ VertexStageable (now w) u code slots cnt ⌝ }
-    ensures { λ r. ⌜ Stages (now (w .entry)) Unpicked (Of (Picked (StepsTo (now (w .entry))) 1 code) hubOf u) slots cnt (now (w .exit)) r ⌝ }
+// Stages the entries for the steps from s to the vertices of number i of its row behind the first cnt. Returns how many are staged then, or
+// slots + 1 if there are more than slots.
+fn stage_number(w: &mut [u64], s: usize, i: usize, code: u64, slots: usize, cnt: usize) -> usize
+    requires { ⌜ StepsStageable (now w) s code slots cnt × (i < rowNumbers) ⌝ }
+    ensures { λ r. ⌜ Stages (now (w .entry)) AllRows (Direct (StepsWithin (now (w .entry)) i) code s) slots cnt (now (w .exit)) r ⌝ }
 {
-    pick(w, u);
-    let mut k = cnt;
-    let mut y = rows::next(w, PICKED, u + 1);
-    while y < MOST_VERTICES {
-        if k == slots {
+    let mut n = cnt;
+    let mut x = w[s * ROW + i];
+    while x != 0 {
+        if n == slots {
             return slots + 1;
         }
-        w[LEAST_WORK + k] = entry(1, y, u, code);
-        k += 1;
-        y = rows::next(w, PICKED, y + 1);
+        let z = u64::trailing_zeros(x) as usize;
+        w[LEAST_WORK + n] = joined(s, i * BITS + z, code);
+        n += 1;
+        x = x & (x - 1);
     }
-    k
+    n
 }
 
-// Stages the out entries of owner s behind the first cnt: the vertices of its row no later than s, less the rows of those taken before. As
-// the rows are closed, what a vertex that was struck out leads to is struck out as well. Returns as stage_hub does.
-fn stage_owner(w: &mut [u64], s: usize, code: u64, slots: usize, cnt: usize) -> usize
+// Stages the entries for the steps from s behind the first cnt; returns as stage_number does.
+fn stage_steps(w: &mut [u64], s: usize, code: u64, slots: usize, cnt: usize) -> usize
+    requires { ⌜ StepsStageable (now w) s code slots cnt ⌝ }
+    ensures { λ r. ⌜ Stages (now (w .entry)) AllRows (Direct (StepsTo (now (w .entry))) code s) slots cnt (now (w .exit)) r ⌝ }
+{
+    let mut n = cnt;
+    let mut i = 0;
+    while i < ROW {
+        n = stage_number(w, s, i, code, slots, n);
+        if slots < n {
+            return n;
+        }
+        i += 1;
+    }
+    n
+}
+
+// Stages the entries of the starts whose walks are one step, and leaves the other starts in row REST. Every vertex that steps anywhere is in
+// row `domain`, and an edge of the list starts at each vertex of it; returns as stage_steps does.
+pub fn stage_singles(
+    edges: &[u32],
+    w: &mut [u64],
+    domain: usize,
+    code: u64,
+    slots: usize,
+    cnt: usize,
+) -> usize
+    requires { ⌜ SinglesStageable (now edges) (now w) domain code slots cnt ⌝ }
+    ensures { λ r. ⌜ StagesSingles (now (w .entry)) domain code slots cnt (now (w .exit)) r ⌝ }
+{
+    rows::copy(w, REST, domain);
+    let mut n = cnt;
+    let mut i = 0;
+    while i < edges.len() {
+        let s = (edges[i] / FROM_UNIT) as usize;
+        if rows::bit(w, REST, s) == 1 {
+            if rows::common(w, s, domain) == MOST_VERTICES {
+                n = stage_steps(w, s, code, slots, n);
+                if slots < n {
+                    return n;
+                }
+                rows::unmark(w, REST, s);
+            }
+        }
+        i += 1;
+    }
+    n
+}
+
+// Stages the entries of start s behind the first cnt: the vertices of its closed row, less the rows of those taken before that are earlier
+// than s. As the rows are closed, what a vertex that was struck out leads to is struck out as well. Returns as stage_steps does.
+fn stage_vertex(w: &mut [u64], s: usize, code: u64, slots: usize, cnt: usize) -> usize
     requires { ⌜ VertexStageable (now w) s code slots cnt ⌝ }
-    ensures { λ r. ⌜
-        Stages (now (w .entry)) Unpicked (Of (Picked (λ u y. StepsTo (now (w .entry)) y u) 0 code) ownerOf s) slots cnt (now (w .exit)) r
-        ⌝ }
+    ensures { λ r. ⌜ Stages (now (w .entry)) Unpicked (Joined (StepsTo (now (w .entry))) code s) slots cnt (now (w .exit)) r ⌝ }
 {
     rows::copy(w, PICKED, s);
     let mut n = cnt;
     let mut u = rows::next(w, PICKED, 0);
-    while u <= s {
+    while u < MOST_VERTICES {
         if n == slots {
             return slots + 1;
         }
-        w[LEAST_WORK + n] = entry(0, s, u, code);
+        w[LEAST_WORK + n] = joined(s, u, code);
         n += 1;
-        rows::subtract(w, PICKED, PICKED, u);
+        if u < s {
+            rows::subtract(w, PICKED, PICKED, u);
+        }
         u = rows::next(w, PICKED, u + 1);
     }
     n
 }
 
-// Stages the entries of both sides behind the first cnt, vertex by vertex: those that it owns, and those whose hub it is. Returns how many are
-// staged then, or slots + 1 if there are more than slots.
-pub fn stage(w: &mut [u64], domain: usize, code: u64, slots: usize, cnt: usize) -> usize
-    requires { ⌜ Stageable (now w) domain code slots cnt ⌝ }
-    ensures { λ r. ⌜ Stages (now (w .entry)) Unpicked (EntryBy (StepsTo (now (w .entry))) code) slots cnt (now (w .exit)) r ⌝ }
+// Stages the entries of the starts in row REST behind the first cnt. Returns as stage_steps does.
+pub fn stage(w: &mut [u64], code: u64, slots: usize, cnt: usize) -> usize
+    requires { ⌜ Stageable (now w) code slots cnt ⌝ }
+    ensures { λ r. ⌜ Stages (now (w .entry)) Unpicked (RestEntry (now (w .entry)) code) slots cnt (now (w .exit)) r ⌝ }
 {
     let mut n = cnt;
-    let mut v = rows::next(w, domain, 0);
-    while v < MOST_VERTICES {
-        let outs = stage_owner(w, v, code, slots, n);
-        if slots < outs {
-            return outs;
-        }
-        n = stage_hub(w, v, code, slots, outs);
+    let mut s = rows::next(w, REST, 0);
+    while s < MOST_VERTICES {
+        n = stage_vertex(w, s, code, slots, n);
         if slots < n {
             return n;
         }
-        v = rows::next(w, domain, v + 1);
+        s = rows::next(w, REST, s + 1);
     }
     n
 }

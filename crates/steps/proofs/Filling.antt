@@ -1,90 +1,153 @@
--- Rows filled, one for each vertex.
-use mathlib.Core.Path.{_∙_}
-use mathlib.Core.Logic.{_⊎_, inr, ⊎-elim, ⊎-map}
-use mathlib.Core.List.{List}
+-- Rows filled, one for each vertex, and emptied.
+use mathlib.Core.Path.{_≡_, sym, _∙_}
+use mathlib.Core.Logic.{_⊎_, inl, inr, ⊎-elim, ⊎-map, _↔_}
+use mathlib.Core.List.{List, List·Memᴰ·not-nil}
 use Prim.Native.Nat.{ℕ, _+_, _-_, _≤_, _<_}
 use native.Mathlib.Omega.{arith}
-use native.Mathlib.Decide.{ℕ-discrete, decLt}
-use lib.ListN.{length}
-use Rattle.model.specs.Limits.{mostVertices, leastWork}
-use Rattle.rows.specs.Rows.{On, Row, KeepsRows, InRows, Empty, Becomes, NextVertex}
-use Rattle.rows.proofs.Rows.{row-as, becomes-as, keeps-none, keeps-then, keeps-long, keeps-cell, keeps-row}
-use Rattle.steps.specs.Filling.{Via, Extendable, RowsFillable, FillsRows}
+use native.Mathlib.Decide.{ℕ-discrete}
+use lib.ListN.{length, getD, take, drop}
+use lib.Seq.{take-all}
+use Rattle.model.specs.Limits.{mostVertices}
+use Rattle.model.specs.Edges.{fromOf, toOf}
+use Rattle.rows.specs.Rows.{cell, On, KeepsRows, InRows, Empty, Becomes}
+use Rattle.rows.proofs.Rows.{row-as, becomes-as, keeps-none, keeps-then, keeps-cell, keeps-row}
+use Rattle.steps.specs.Filling.{Clears, FillsRows, Outgoing, Starting, LeadsTo, LeadsInto, RowsFillable, EndsFillable, SourcesClearable}
 use Rattle.steps.proofs.Kept.{within-at, keeps-one}
-use Rattle.steps.proofs.Runs.{via-kept}
-
--- the rows of vertices below p are those of P, and those of the others are empty
-pub record Filling (base : ℕ) (P : ℕ → ℕ → Type 0) (w w′ : List ℕ) (p : ℕ) : Type 0 where
-  pub keeps : KeepsRows w w′ (λ r. InRows base (base + mostVertices) r → ⊥)
-  pub rows : (a : ℕ) → a < mostVertices → Row w′ (base + a) (λ t. (a < p) × P a t)
+use Rattle.steps.proofs.Passing.{from-vertex, starting-more, leads-more, leads-into-more, starting-later, none-left}
 
 module _ {base : ℕ} {P : ℕ → ℕ → Type 0} {w : List ℕ} where
-  pub filling-none : Empty w base mostVertices → Filling base P w w 0
-  filling-none e =
+  pub fills-none : Empty w base mostVertices → ((a t : ℕ) → P a t → ⊥) → FillsRows base P w w
+  fills-none e n =
       record {
         keeps = keeps-none;
-        rows = λ a h. record { only = λ t k o. absurd (e .none (base + a) t (within-at a h) k o); all = λ t k x. absurd (omega arith) };
+        rows = λ a h. record { only = λ t k o. absurd (e .none (base + a) t (within-at a h) k o); all = λ t k p. absurd (n a t p) };
       }
 
-  module _ {w′ : List ℕ} {p : ℕ} (g : Filling base P w w′ p) where
-    -- vertices with nothing of P are passed over
-    filling-pass : {q : ℕ} → p ≤ q → ((a t : ℕ) → a < mostVertices → t < mostVertices → p ≤ a → a < q → P a t → ⊥) → Filling base P w w′ q
-    filling-pass {q} low gap =
-        record {
-          keeps = g .keeps;
-          rows = λ a h. row-as (λ t k. (λ x. (omega (arith, x .0), x .1), λ x. (early a h t k (x .0) (x .1), x .1))) (g .rows a h);
-        }
-      where
-        early : (a : ℕ) → a < mostVertices → (t : ℕ) → t < mostVertices → a < q → P a t → a < p
-        early a h t k l x = elim (decLt a p) [ yes m ↦ m | no m ↦ absurd (gap a t h k (omega arith) l x) ]
+  -- row s gains the vertices of Q
+  pub fills-more : {w′ w″ : List ℕ} {s : ℕ} {Q : ℕ → Type 0} {R : ℕ → ℕ → Type 0} → FillsRows base P w w′ → s < mostVertices
+      → Becomes w′ w″ (base + s) (λ t. On w′ (base + s) t ⊎ Q t)
+      → ((a t : ℕ) → a < mostVertices → t < mostVertices → (P a t ⊎ ((a ≡ s) × Q t)) ↔ R a t) → FillsRows base R w w″
+  fills-more {s = s} g h b f =
+      record {
+        keeps = keeps-then (g .keeps) (keeps-one h b);
+        rows = λ a k. elim (ℕ-discrete a s) [
+          | yes e ↦ row-as (λ t l. (
+            ⊎-elim (λ o. f a t k l .0 (inl (g .rows a k .only t l (rw e o)))) (λ q. f a t k l .0 (inr (e, q))),
+            λ r. ⊎-elim (λ p. inl (rw (← e) (g .rows a k .all t l p))) (λ q. inr (q .1)) (f a t k l .1 r),
+          )) (rw e (b .row))
+          | no n ↦ row-as (λ t l. (λ p. f a t k l .0 (inl p), λ r. ⊎-elim (λ p. p) (λ q. absurd (n (q .0))) (f a t k l .1 r)))
+              (keeps-row (b .keeps) (λ e. n (omega arith)) (g .rows a k))
+        ];
+      }
 
-    pub filling-more : {w″ : List ℕ} → p < mostVertices → Becomes w′ w″ (base + p) (λ t. On w′ (base + p) t ⊎ P p t) → Filling base P w w″ (p + 1)
-    filling-more {w″} h b =
+  pub fills-as : {w′ : List ℕ} {R : ℕ → ℕ → Type 0} → FillsRows base P w w′ → ((a t : ℕ) → a < mostVertices → P a t ↔ R a t)
+      → FillsRows base R w w′
+  fills-as g f = record { keeps = g .keeps; rows = λ a h. row-as (λ t _. f a t h) (g .rows a h) }
+
+-- ---- each vertex alone, for the vertices below a number
+
+pub identity-none : {w : List ℕ} {base : ℕ} → Empty w base mostVertices → FillsRows base (λ a t. (a < 0) × (t ≡ a)) w w
+identity-none e = fills-none e (λ a t p. absurd (omega (arith, p .0)))
+
+pub identity-more : {w w′ w″ : List ℕ} {base n : ℕ} → FillsRows base (λ a t. (a < n) × (t ≡ a)) w w′ → n < mostVertices
+    → Becomes w′ w″ (base + n) (λ t. On w′ (base + n) t ⊎ (t ≡ n)) → FillsRows base (λ a t. (a < n + 1) × (t ≡ a)) w w″
+identity-more {n = n} g h b = fills-more g h b (λ a t _ _. (
+  ⊎-elim (λ p. (omega (arith, p .0), p .1)) (λ q. (omega (arith, q .0), q .1 ∙ sym (q .0))),
+  λ p. elim (ℕ-discrete a n) [ yes e ↦ inr (e, p .1 ∙ e) | no d ↦ inl (omega (arith, p .0), p .1) ],
+))
+
+pub identity-all : {w w′ : List ℕ} {base n : ℕ} → FillsRows base (λ a t. (a < n) × (t ≡ a)) w w′ → mostVertices ≤ n → FillsRows base (λ a t. t ≡ a) w w′
+identity-all g h = fills-as g (λ a t k. (λ p. p .1, λ e. (omega arith, e)))
+
+-- ---- by the first i edges of a list
+
+module _ {edges w : List ℕ} {from to : ℕ} (s : RowsFillable edges w from to) where
+  pub into-none : FillsRows to (LeadsInto (take 0 edges) w from) w w
+  into-none = fills-none (s .empty) (λ a t p. List·Memᴰ·not-nil (p .listed))
+
+  pub into-more : {w′ w″ : List ℕ} {i : ℕ} → i < length edges → FillsRows to (LeadsInto (take i edges) w from) w w′
+      → let x = getD edges i 0 in let r = to + fromOf x in Becomes w′ w″ r (λ t. On w′ r t ⊎ On w′ (from + toOf x) t)
+      → FillsRows to (LeadsInto (take (i + 1) edges) w from) w w″
+  into-more {w′ = w′} {w″ = w″} {i = i} h g b = fills-more g (from-vertex edges i h (s .outgoing)) joined (λ a t _ _. leads-into-more edges i h)
+    where
+      x : ℕ
+      x = getD edges i 0
+
+      -- the rows that are led to are not those that are filled
+      other : InRows to (to + mostVertices) (from + toOf x) → ⊥
+      other a = s .apart (from + toOf x - to) (toOf x) (omega (arith, a .least, a .most)) (omega arith) (omega (arith, a .least))
+
+      kept : (t : ℕ) → t < mostVertices → cell w′ (from + toOf x) t ≡ cell w (from + toOf x) t
+      kept t k = keeps-cell (g .keeps) (from + toOf x) other t k
+
+      joined : Becomes w′ w″ (to + fromOf x) (λ t. On w′ (to + fromOf x) t ⊎ On w (from + toOf x) t)
+      joined = becomes-as b (λ t k. (⊎-map (λ o. o) (λ o. sym (kept t k) ∙ o), ⊎-map (λ o. o) (λ o. kept t k ∙ o)))
+
+  pub into-all : {w′ : List ℕ} {i : ℕ} → length edges ≤ i → FillsRows to (LeadsInto (take i edges) w from) w w′ → FillsRows to (LeadsInto edges w from) w w′
+  into-all {i = i} h g = rw (take-all i edges h) at g
+
+module _ {edges w : List ℕ} {to : ℕ} (s : EndsFillable edges w to) where
+  pub ends-none : FillsRows to (LeadsTo (take 0 edges)) w w
+  ends-none = fills-none (s .empty) (λ a t p. List·Memᴰ·not-nil (p .listed))
+
+  pub ends-more : {w′ w″ : List ℕ} {i : ℕ} → i < length edges → FillsRows to (LeadsTo (take i edges)) w w′
+      → let x = getD edges i 0 in let r = to + fromOf x in Becomes w′ w″ r (λ t. On w′ r t ⊎ (t ≡ toOf x)) → FillsRows to (LeadsTo (take (i + 1) edges)) w w″
+  ends-more {i = i} h g b = fills-more g (from-vertex edges i h (s .outgoing)) b (λ a t _ _. leads-more edges i h)
+
+  pub ends-all : {w′ : List ℕ} {i : ℕ} → length edges ≤ i → FillsRows to (LeadsTo (take i edges)) w w′ → FillsRows to (LeadsTo edges) w w′
+  ends-all {i = i} h g = rw (take-all i edges h) at g
+
+-- ---- one row: where the first i edges of a list start
+
+module _ (edges : List ℕ) {w w′ : List ℕ} {r : ℕ} where
+  pub starts-none : Becomes w w′ r (λ _. ⊥) → Becomes w′ w′ r (Starting (take 0 edges))
+  starts-none b = record { keeps = keeps-none; row = row-as (λ a _. (λ n. absurd n, λ s. List·Memᴰ·not-nil (s .listed))) (b .row) }
+
+  pub starts-more : (i : ℕ) → i < length edges → Becomes w w′ r (Starting (take i edges))
+      → {w″ : List ℕ} → Becomes w′ w″ r (λ a. On w′ r a ⊎ (a ≡ fromOf (getD edges i 0))) → Becomes w w″ r (Starting (take (i + 1) edges))
+  starts-more i h g b =
+      record {
+        keeps = keeps-then (g .keeps) (b .keeps);
+        row = row-as (λ a k. (
+          λ o. starting-more edges i h .0 (⊎-map (g .row .only a k) (λ e. e) o),
+          λ s. ⊎-map (g .row .all a k) (λ e. e) (starting-more edges i h .1 s),
+        )) (b .row);
+      }
+
+  pub starts-all : (i : ℕ) → length edges ≤ i → Becomes w w′ r (λ _. ⊥)
+      → {w″ : List ℕ} → Becomes w′ w″ r (Starting (take i edges)) → Becomes w w″ r (Starting edges)
+  starts-all i h b g = record { keeps = keeps-then (b .keeps) (g .keeps); row = rw (take-all i edges h) at (g .row) }
+
+-- ---- the rows of the vertices where edges start, emptied
+
+-- of the rows from base on, only those of vertices where an edge from number i on starts have any vertex
+pub record Emptying (edges w : List ℕ) (base : ℕ) (w′ : List ℕ) (i : ℕ) : Type 0 where
+  pub keeps : KeepsRows w w′ (λ r. InRows base (base + mostVertices) r → ⊥)
+  pub sources : (a t : ℕ) → a < mostVertices → t < mostVertices → On w′ (base + a) t → Starting (drop i edges) a
+
+module _ {edges w : List ℕ} {base : ℕ} where
+  pub emptying-none : SourcesClearable edges w base → Emptying edges w base w 0
+  emptying-none s = record { keeps = keeps-none; sources = s .sources }
+
+  module _ {w′ : List ℕ} {i : ℕ} (g : Emptying edges w base w′ i) where
+    pub emptying-more : {w″ : List ℕ} → Outgoing edges → i < length edges → Becomes w′ w″ (base + fromOf (getD edges i 0)) (λ _. ⊥)
+        → Emptying edges w base w″ (i + 1)
+    emptying-more {w″} o h b =
         record {
-          keeps = keeps-then (g .keeps) (keeps-one h b);
-          rows = λ a k. elim (ℕ-discrete a p) [
-            | yes e ↦ rw e (row-as (λ t l. (⊎-elim (λ o. absurd (empty t l o)) (λ x. (omega arith, x)), λ x. inr (x .1))) (b .row))
-            | no d ↦ row-as (λ t _. (λ x. (omega (arith, x .0), x .1), λ x. (omega (arith, x .0), x .1)))
-                (keeps-row (b .keeps) (λ e. d (omega arith)) (g .rows a k))
+          keeps = keeps-then (g .keeps) (keeps-one (from-vertex edges i h o) b);
+          sources = λ a t k l on. elim (ℕ-discrete a (fromOf (getD edges i 0))) [
+            | yes e ↦ absurd (b .row .only t l (rw e at on))
+            | no n ↦ starting-later edges i h (g .sources a t k l (sym (keeps-cell (b .keeps) (base + a) (λ e. n (omega arith)) t l) ∙ on)) n
           ];
         }
-      where
-        empty : (t : ℕ) → t < mostVertices → On w′ (base + p) t → ⊥
-        empty t l o = omega (arith, g .rows p h .only t l o .0)
 
-    pub filling-all : mostVertices ≤ p → FillsRows base P w w′
-    filling-all m = record { keeps = g .keeps; rows = λ a h. row-as (λ t _. (λ x. x .1, λ x. (omega arith, x))) (g .rows a h) }
-
--- ---- by the vertices of row `starts`
-
-module _ {edges w : List ℕ} {c from to starts : ℕ} (s : RowsFillable edges w c from to starts) where
-  -- the rows that are led to are not those that are filled
-  other : (b : ℕ) → b < mostVertices → InRows to (to + mostVertices) (from + b) → ⊥
-  other b h a = s .apart (from + b - to) b (omega (arith, a .least, a .most)) h (omega (arith, a .least))
-
-  abbrev pub ViaLabel : ℕ → ℕ → Type 0
-  ViaLabel a t = Via edges w from a c t
-
-  module _ {w′ : List ℕ} {p : ℕ} (g : Filling to ViaLabel w w′ p) where
-    pub filling-long : leastWork ≤ length w′
-    filling-long = keeps-long (g .keeps) (s .long)
-
-    pub filling-next : {q : ℕ} → NextVertex w′ starts p q → Filling to ViaLabel w w′ q
-    filling-next n = filling-pass g (n .low) (λ a t h k l m x.
-        n .gap a l m (keeps-cell (g .keeps) starts (λ x. omega (arith, x .most, s .to-rows, s .starts-least)) a h ∙ s .sources a t h k x))
-
-    pub filling-extendable : p < mostVertices → Extendable w′ c from (to + p) p
-    filling-extendable h =
+    pub emptying-all : length edges ≤ i → Clears w w′ base mostVertices
+    emptying-all h =
         record {
-          long = filling-long;
-          label = s .label;
-          base-rows = omega (arith, s .from-rows);
-          row = omega (arith, s .to-rows);
-          apart = λ b l. s .apart p b h l;
-          vertex = h;
+          keeps = g .keeps;
+          empty = record {
+            none = λ r t a l on.
+                let e : r ≡ base + (r - base) = omega (arith, a .least) in
+                none-left edges i h (g .sources (r - base) t (omega (arith, a .least, a .most)) l (rw e at on));
+          };
         }
-
-    pub filling-extend : {w″ : List ℕ} → p < mostVertices → Becomes w′ w″ (to + p) (λ t. On w′ (to + p) t ⊎ Via edges w′ from p c t)
-        → Filling to ViaLabel w w″ (p + 1)
-    filling-extend h b =
-        filling-more g h (becomes-as b (λ t k. (⊎-map (λ o. o) (via-kept (g .keeps) other k .0), ⊎-map (λ o. o) (via-kept (g .keeps) other k .1))))

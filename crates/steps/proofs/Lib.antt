@@ -1,6 +1,8 @@
 pub mod Kept
-pub mod Runs
+pub mod Passing
 pub mod Filling
+pub mod Gathering
 pub mod Trails
-pub mod Prepending
-pub mod Branching
+pub mod Live
+pub mod Turning
+pub mod Suffixed

@@ -1,13 +1,14 @@
--- Rows filled, one for each vertex.
+-- Rows filled, one for each vertex, and the edges of a list that lead from row to row.
 use mathlib.Core.Path.{_≡_}
 use mathlib.Core.List.{List}
-use Prim.Native.Nat.{ℕ, _+_, _≤_, _<_}
-use lib.ListN.{length}
-use Rattle.model.specs.Limits.{mostVertices, mostLabel, leastWork}
+use mathlib.Core.Logic.{_⊎_}
+use Prim.Native.Nat.{ℕ, _+_, _-_, _≤_, _<_}
+use lib.ListN.{length, take}
+use Rattle.model.specs.Limits.{mostVertices, leastWork}
 use Rattle.model.specs.Lists.{_∈_}
-use Rattle.model.specs.Edges.{edgeNumber}
-use Rattle.rows.specs.Region.{workRows, savedRows}
-use Rattle.rows.specs.Rows.{On, Row, KeepsRows, InRows, Empty}
+use Rattle.model.specs.Edges.{edgeNumber, fromOf, toOf}
+use Rattle.rows.specs.Region.{workRows, stepRows, parentRows, savedRows}
+use Rattle.rows.specs.Rows.{On, Has, Row, KeepsRows, InRows, Empty}
 
 -- the n rows from base on are emptied
 pub record Clears (w w′ : List ℕ) (base n : ℕ) : Type 0 where
@@ -25,6 +26,32 @@ pub record IdentityFillable (w : List ℕ) (base : ℕ) : Type 0 where
   pub base-rows : base + mostVertices ≤ workRows
   pub empty : Empty w base mostVertices
 
+-- ---- the edges of a list
+
+-- each starts at a vertex
+pub record Outgoing (edges : List ℕ) : Type 0 where
+  pub small : (x : ℕ) → x ∈ edges → fromOf x < mostVertices
+
+-- an edge of the list starts at a
+pub record Starting (edges : List ℕ) (a : ℕ) : Type 0 where
+  pub edge : ℕ
+  pub listed : edge ∈ edges
+  pub from : fromOf edge ≡ a
+
+-- an edge of the list leads from a to t
+pub record LeadsTo (edges : List ℕ) (a t : ℕ) : Type 0 where
+  pub edge : ℕ
+  pub listed : edge ∈ edges
+  pub from : fromOf edge ≡ a
+  pub to : toOf edge ≡ t
+
+-- an edge of the list leads from a to a vertex whose row, of those from `base` on, has t
+pub record LeadsInto (edges w : List ℕ) (base a t : ℕ) : Type 0 where
+  pub edge : ℕ
+  pub listed : edge ∈ edges
+  pub from : fromOf edge ≡ a
+  pub on : On w (base + toOf edge) t
+
 -- an edge with label c leads from a to a vertex whose row, of those from `base` on, has t
 pub record Via (edges w : List ℕ) (base a c t : ℕ) : Type 0 where
   pub b : ℕ
@@ -32,24 +59,53 @@ pub record Via (edges w : List ℕ) (base a c t : ℕ) : Type 0 where
   pub stands : edgeNumber a c b ∈ edges
   pub on : On w (base + b) t
 
--- row r is none of those from `base` on, one for each vertex
-pub record Extendable (w : List ℕ) (c base r s : ℕ) : Type 0 where
-  pub long : leastWork ≤ length w
-  pub label : c ≤ mostLabel
-  pub base-rows : base + mostVertices ≤ workRows
-  pub row : r < workRows
-  pub apart : (b : ℕ) → b < mostVertices → base + b ≡ r → ⊥
-  pub vertex : s < mostVertices
+-- work memory has row `starts`, and there is room for all edges of the list
+pub record Gatherable (edges w : List ℕ) (starts : ℕ) (live : List ℕ) : Type 0 where
+  pub has : Has w starts
+  pub room : length edges ≤ length live
 
--- the rows from `to` on are empty and none of those from `from` on, and row `starts` has every vertex that leads anywhere by label c and
--- these
-pub record RowsFillable (edges w : List ℕ) (c from to starts : ℕ) : Type 0 where
+-- the first n of `live` are the edges of the list that end in row `starts`
+pub record Gathers (edges w : List ℕ) (starts : ℕ) (live : List ℕ) (n : ℕ) : Type 0 where
+  pub fits : n ≤ length edges
+  pub only : (x : ℕ) → x ∈ take n live → (x ∈ edges) × On w starts (toOf x)
+  pub all : (x : ℕ) → x ∈ edges → On w starts (toOf x) → x ∈ take n live
+
+-- the rows from `to` on are empty, and none of those from `from` on
+pub record RowsFillable (edges w : List ℕ) (from to : ℕ) : Type 0 where
+  pub outgoing : Outgoing edges
   pub long : leastWork ≤ length w
-  pub label : c ≤ mostLabel
   pub from-rows : from + mostVertices ≤ savedRows
   pub to-rows : to + mostVertices ≤ savedRows
   pub apart : (a b : ℕ) → a < mostVertices → b < mostVertices → from + b ≡ to + a → ⊥
-  pub starts-least : savedRows ≤ starts
-  pub starts-most : starts < workRows
   pub empty : Empty w to mostVertices
-  pub sources : (a t : ℕ) → a < mostVertices → t < mostVertices → Via edges w from a c t → On w starts a
+
+-- the rows from `to` on are empty
+pub record EndsFillable (edges w : List ℕ) (to : ℕ) : Type 0 where
+  pub outgoing : Outgoing edges
+  pub long : leastWork ≤ length w
+  pub to-rows : to + mostVertices ≤ savedRows
+  pub empty : Empty w to mostVertices
+
+-- of the rows from `base` on, only those of vertices where an edge of the list starts have any vertex
+pub record SourcesClearable (edges w : List ℕ) (base : ℕ) : Type 0 where
+  pub outgoing : Outgoing edges
+  pub long : leastWork ≤ length w
+  pub base-rows : base + mostVertices ≤ workRows
+  pub sources : (a t : ℕ) → a < mostVertices → t < mostVertices → On w (base + a) t → Starting edges a
+
+-- the rows from `from` on are one half, and the other half is empty; each with any vertex is of a vertex in row `starts`, where an edge of
+-- `behind` starts; and there is room for all edges of `first`
+pub record Prependable (first behind w : List ℕ) (from starts : ℕ) (live : List ℕ) : Type 0 where
+  pub long : leastWork ≤ length w
+  pub half : (from ≡ stepRows) ⊎ (from ≡ parentRows)
+  pub starts-row : InRows savedRows workRows starts
+  pub outgoing : Outgoing first × Outgoing behind
+  pub quiet : Empty w (parentRows - from) mostVertices
+  pub sources : (a t : ℕ) → a < mostVertices → t < mostVertices → On w (from + a) t → On w starts a × Starting behind a
+  pub room : length first ≤ length live
+
+-- the other half is then where the edges of `first` lead, and the half from `from` on empty
+pub record Prepends (first w w′ : List ℕ) (from : ℕ) : Type 0 where
+  pub keeps : KeepsRows w w′ (λ r. savedRows ≤ r)
+  pub quiet : Empty w′ from mostVertices
+  pub rows : (a : ℕ) → a < mostVertices → Row w′ (parentRows - from + a) (LeadsInto first w from a)

@@ -15,7 +15,7 @@ use Rattle.model.specs.Patterns.{Pattern, code}
 use Rattle.model.specs.Walks.{Spells, Runs, once, more}
 use Rattle.model.specs.Entries.{IsEntry, entryOf}
 use Rattle.model.specs.Computed.Edges.{edge?}
-use Rattle.model.specs.Build.Hubs.{EntryBy}
+use Rattle.model.specs.Build.Hubs.{EntryBy, Plus}
 use Rattle.model.specs.Build.Suffixes.{With, Beyond}
 use Rattle.model.proofs.Tests.{test-yields}
 use Rattle.model.proofs.Patterns.{code-below}
@@ -26,11 +26,10 @@ use Rattle.model.proofs.Suffixes.{all-beyond}
 use Rattle.model.proofs.Codes.{code-inj}
 use Rattle.rows.specs.Rows.{NextVertex}
 use Rattle.rows.proofs.Rows.{next-none}
-use Rattle.closure.specs.Closing.{Plus, one}
 use Rattle.closure.proofs.Plus.{plus-from}
 use Rattle.steps.specs.Steps.{Trail}
 use Rattle.steps.proofs.Trails.{trail-cut, trail-to, trail-spells, spells-trail}
-use Rattle.suffixes.specs.Suffixes.{Spans, PatternEntry, Children}
+use Rattle.suffixes.specs.Suffixes.{Spans, PatternEntry, ChildRow}
 
 -- ---- an entry has one pattern
 
@@ -69,14 +68,14 @@ module _ {edges : List ℕ} (w : List ℕ) (dead : (a t : ℕ) → a < mostVerti
   no-plus : (v : List ℕ) {a b : ℕ} → Plus (Spans edges (v ++ w)) a b → ⊥
   no-plus v p = plus-from (λ a. ⊥) (λ a b h. let (m, x, y) = trail-cut v (h .trail) in dead m b (trail-to x (h .from)) y) p
 
-  no-entry : (v : List ℕ) (e : ℕ) → PatternEntry edges (v ++ w) e → ⊥
+  pub no-entry : (v : List ℕ) (e : ℕ) → PatternEntry edges (v ++ w) e → ⊥
   no-entry v e (EntryBy.out p) = no-plus v (p .related)
   no-entry v e (EntryBy.into p) = no-plus v (p .related)
 
 -- if the row of one label more is empty
-pub child-none : {edges word w : List ℕ} {base c q : ℕ} → Children edges word w base → c < mostLabel → NextVertex w (base + c) 0 q → q ≡ mostVertices
+pub child-none : {edges word w : List ℕ} {c r q : ℕ} → ChildRow edges word w c r → NextVertex w r 0 q → q ≡ mostVertices
     → (v : List ℕ) (e : ℕ) → PatternEntry edges (v ++ suc c ∷ word) e → ⊥
-child-none {word = word} {c = c} f h n e = no-entry (suc c ∷ word) (λ a t k trail. next-none n refl e a k (f .all c a t h k trail))
+child-none {word = word} {c = c} f n e = no-entry (suc c ∷ word) (λ a t k trail. next-none n refl e a k (f .has a t k trail))
 
 -- ---- over a graph
 

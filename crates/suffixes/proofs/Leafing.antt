@@ -1,41 +1,102 @@
--- The entries with one label before a word: staged for one label, and for each of them.
-use mathlib.Core.Path.{_≡_, ap, subst, _∙_}
+-- The entries with one label before a word: its edges gathered, its row filled, and the entries staged.
+use mathlib.Core.Path.{_≡_, refl, sym, ap, _∙_}
 use mathlib.Core.Bool.{true, false}
 use mathlib.Core.Logic.{_↔_, Iff·symm}
-use mathlib.Core.List.{List, [], _∷_}
+use mathlib.Core.List.{List, [], _∷_, List·Memᴰ·not-nil}
 use Prim.Native.Nat.{ℕ, suc, _+_, _-_, _≤_, _<_}
 use native.Mathlib.Omega.{arith}
-use lib.ListN.{take, drop, length-drop}
+use lib.ListN.{length, getD, take, drop, length-drop}
 use lib.Seq.{take-all}
 use Rattle.model.specs.Limits.{mostVertices, mostLabel, mostLongest}
+use Rattle.model.specs.Lists.{_∈_}
+use Rattle.model.specs.Edges.{fromOf, toOf}
 use Rattle.model.specs.Patterns.{Keyed, code}
 use Rattle.model.specs.Computed.Patterns.{own?}
-use Rattle.model.specs.Build.Suffixes.{Leaf, Some}
+use Rattle.model.specs.Build.Hubs.{Plus}
+use Rattle.model.specs.Build.Suffixes.{Leaf}
 use Rattle.model.proofs.Tests.{test-yields, test-fails}
 use Rattle.model.proofs.Patterns.{test-own, code-below}
 use Rattle.model.proofs.Hubs.{entry-by-as}
-use Rattle.model.proofs.Suffixes.{some-none, some-up, some-more, leaves-apart}
-use Rattle.rows.specs.Rows.{NextVertex}
-use Rattle.rows.proofs.Rows.{keeps-cell, keeps-row}
-use Rattle.closure.specs.Closing.{Plus}
+use Rattle.edges.specs.Grouped.{section, Grouped}
+use Rattle.rows.specs.Region.{stepRows, parentRows}
+use Rattle.rows.specs.Rows.{cell, KeepsRows, InRows, Empty, Becomes}
+use Rattle.rows.proofs.Rows.{keeps-cell, keeps-row, keeps-empty}
 use Rattle.closure.proofs.Plus.{plus-as}
-use Rattle.staging.proofs.Adding.{stages-none, stages-as, stages-then, stages-over}
+use Rattle.staging.specs.Stage.{Stages}
+use Rattle.staging.proofs.Adding.{stages-none, stages-as, stages-since, stages-within}
+use Rattle.steps.specs.Steps.{Trail}
+use Rattle.steps.specs.Filling.{Outgoing, Starting, LeadsInto, Via, Gatherable, Gathers}
 use Rattle.steps.proofs.Trails.{trail-edge, edge-trail}
+use Rattle.steps.proofs.Live.{Started, section-fits, section-outgoing, section-leads, live-outgoing, live-via}
 use Rattle.pattern_entries.specs.Pattern.{Led, PatternStageable, PatternStages, LedEntry}
-use Rattle.suffixes.specs.Suffixes.{Spans, PatternEntry, wordOf, baseOf, Child, LeafStageable}
-use Rattle.suffixes.proofs.Entries.{one-pattern, child-none}
+use Rattle.suffixes.specs.Suffixes.{Spans, PatternEntry, wordOf, baseOf, Child, ChildRow, LeafStageable, LeafStages}
+use Rattle.suffixes.proofs.Entries.{no-entry}
 use Rattle.suffixes.proofs.Children.{word-length, child-labels}
 
-module _ {edges slots digits w : List ℕ} {d longest room cnt c : ℕ} (l : LeafStageable edges slots digits w d longest room cnt) (small : c < mostLabel) where
+module _ {edges slots digits w : List ℕ} {d starts : ℕ} {live : List ℕ} {longest room cnt : ℕ}
+    (l : LeafStageable edges slots digits w d starts live longest room cnt) where
+  -- what staging needs is kept, if the parent's rows and those before the children's are
+  pub stageable-kept : {w′ live′ : List ℕ} {K : ℕ → Type 0} {n : ℕ} → KeepsRows w w′ K → ((q : ℕ) → InRows parentRows (baseOf d) q → K q)
+      → Empty w′ stepRows mostVertices → length edges ≤ length live′ → n ≤ room → LeafStageable edges slots digits w′ d starts live′ longest room n
+  stageable-kept k f quiet listable h =
+      record {
+        grouped = l .grouped;
+        chosen = l .chosen;
+        parent = record { rows = λ a i. keeps-row k (f _ (record { least = omega arith; most = omega arith })) (l .parent .rows a i) };
+        least = l .least;
+        before = l .before;
+        spelled = λ a t i trail. keeps-cell k starts (f _ (record { least = omega (arith, l .least); most = l .before })) a i ∙ l .spelled a t i trail;
+        quiet = quiet;
+        listable = listable;
+        count = h;
+        there = omega (arith, l .there, k .len);
+      }
+
+  -- where the word leads from, row `starts` has
+  started : Started w parentRows starts
+  started = record { all = λ b t h k on. l .spelled b t h (l .parent .rows b h .only t k on) }
+
+-- ---- one label
+
+none-taken : (n : ℕ) (l : List ℕ) {x : ℕ} → n ≡ 0 → x ∈ take n l → ⊥
+none-taken n l z m = List·Memᴰ·not-nil (rw z at m)
+
+-- the slots of label suc c, as they are read
+module _ {edges slots : List ℕ} (g : Grouped edges slots) {c : ℕ} (small : c < mostLabel) where
+  next : c + 1 ≡ suc c
+  next = omega arith
+
+  pub slots-rise : getD slots c 0 ≤ getD slots (c + 1) 0
+  slots-rise = rw next (g .rises c small)
+
+  pub slots-most : getD slots (c + 1) 0 ≤ length edges
+  slots-most = g .most (c + 1) (omega arith)
+
+module _ {edges slots digits w : List ℕ} {d starts : ℕ} {live : List ℕ} {longest room cnt c : ℕ}
+    (l : LeafStageable edges slots digits w d starts live longest room cnt) (small : c < mostLabel) where
   abbrev word : List ℕ
   word = wordOf digits d
 
-  leaf-none : ((e : ℕ) → Leaf longest (PatternEntry edges) word c e → ⊥) → PatternStages w (Leaf longest (PatternEntry edges) word c) room cnt w cnt
-  leaf-none n = record { stages = stages-none (l .count) n; quiet = l .quiet }
+  -- its row is before those of more labels
+  deep : baseOf d + c < baseOf longest
+  deep = omega (arith, l .chosen .more)
 
-  -- ---- no vertex from which the pattern can be spelled
-  pub leaf-empty : {q : ℕ} → NextVertex w (baseOf d + c) 0 q → q ≡ mostVertices → PatternStages w (Leaf longest (PatternEntry edges) word c) room cnt w cnt
-  leaf-empty h e = leaf-none (λ x p. child-none (l .children) small h e [] x (p .holds))
+  -- the edges of the label as they are lent
+  abbrev lent : List ℕ
+  lent = take (getD slots (c + 1) 0 - getD slots c 0) (drop (getD slots c 0) edges)
+
+  lent-is : lent ≡ section edges slots c
+  lent-is =
+      let e : c + 1 ≡ suc c = omega arith in
+      ap (λ (k : ℕ). take (getD slots k 0 - getD slots c 0) (drop (getD slots c 0) edges)) e
+
+  pub gatherable : Gatherable lent w starts live
+  gatherable =
+      rw lent-is
+      (record {
+        has = record { row = omega (arith, l .before, l .chosen .more, l .chosen .most); long = omega (arith, l .there) };
+        room = omega (arith, section-fits (l .grouped) c small, l .listable);
+      })
 
   -- ---- the pattern
   pub keyed : Keyed longest (suc c ∷ word)
@@ -54,94 +115,128 @@ module _ {edges slots digits w : List ℕ} {d longest room cnt c : ℕ} (l : Lea
       take-all (mostLongest - (mostLongest - 1 - d)) (drop (mostLongest - 1 - d) next) (omega (arith, length-drop (mostLongest - 1 - d) next, f .size))
       ∙ (ap (λ (i : ℕ). drop i next) e ∙ f .word)
 
-  pub leaf-folds : own? (suc c ∷ word) ≡ false → PatternStages w (Leaf longest (PatternEntry edges) word c) room cnt w cnt
-  leaf-folds e = leaf-none (λ x p. test-fails (test-own (suc c ∷ word) (keyed .long)) e (p .pattern .own))
+  -- ---- the edges gathered
+  module _ {live′ : List ℕ} {n : ℕ} (lists : Gathers lent w starts live′ n) where
+    abbrev gathered : List ℕ
+    gathered = take n live′
 
-  -- ---- label and word lead where the pattern does
-  led-spans : (a b : ℕ) → Led edges w (suc c) a b ↔ Spans edges (suc c ∷ word) a b
-  led-spans a b = (
-    λ h. let v = h .via in record {
-      from = h .from;
-      to = h .to;
-      trail = edge-trail (v .small) (v .stands) (l .parent .rows (v .b) (v .small) .only b (h .to) (v .on));
-    },
-    λ h. let (m, k, stands, trail) = trail-edge (h .trail) in record {
-      from = h .from;
-      to = h .to;
-      via = record { b = m; small = k; stands = stands; on = l .parent .rows m k .all b (h .to) trail };
-    },
-  )
+    -- from the label's section
+    g : Gathers (section edges slots c) w starts live′ n
+    g = rw lent-is at lists
 
-  pub pattern-stageable : {label n : ℕ} → label ≡ suc c → n ≡ code (suc c ∷ word) → PatternStageable edges slots w label (baseOf d + c) n room cnt
-  pattern-stageable {label} {n} q e =
-      rw q
-      (record {
-        slotted = l .slotted;
-        label-most = omega arith;
-        least = omega arith;
-        most = omega (arith, l .chosen .more, l .chosen .most);
-        quiet = l .quiet;
-        sources = λ a b h. l .children .all c a b small (h .from) (led-spans a b .0 h .trail);
-        code-small = omega (arith, e, code-below (l .chosen .most) keyed);
-        count = l .count;
-        there = l .there;
-      })
+    -- they have room
+    pub gathered-fit : n ≤ length live
+    gathered-fit = omega (arith, g .fits, section-fits (l .grouped) c small, l .listable)
 
-  pub leaf-stages : {label n : ℕ} → label ≡ suc c → n ≡ code (suc c ∷ word) → own? (suc c ∷ word) ≡ true → {w′ : List ℕ} {r : ℕ}
-      → PatternStages w (LedEntry edges w label n) room cnt w′ r → PatternStages w (Leaf longest (PatternEntry edges) word c) room cnt w′ r
-  leaf-stages {label} {n} z e own p = record { stages = stages-as (rw (z, e) at (p .stages)) (λ x. (there x, back x)); quiet = p .quiet }
-    where
-      same : (a b : ℕ) → Plus (Led edges w (suc c)) a b ↔ Plus (Spans edges (suc c ∷ word)) a b
-      same = plus-as led-spans
+    pub outgoing : Outgoing gathered
+    outgoing = live-outgoing g (section-outgoing (l .grouped) c small)
 
-      there : (x : ℕ) → LedEntry edges w (suc c) (code (suc c ∷ word)) x → Leaf longest (PatternEntry edges) word c x
-      there x q =
+    -- one starts at each vertex from which the pattern can be spelled
+    spelled-from : (a t : ℕ) → Trail edges a (suc c ∷ word) t → Starting gathered a
+    spelled-from a t trail =
+        let (m, k, stands, rest) = trail-edge trail in
+        let x = section-leads (l .grouped) c small a m k .1 stands in
+        record { edge = x .edge; listed = g .all (x .edge) (x .listed) (rw (x .to) (l .spelled m t k rest)); from = x .from }
+
+    none-gathered : n ≡ 0 → (e : ℕ) → PatternEntry edges (suc c ∷ word) e → ⊥
+    none-gathered z = no-entry (suc c ∷ word) (λ a t k trail. none-taken n live′ z (spelled-from a t trail .listed)) []
+
+    -- ---- and the child's row made of them
+    module _ {w₁ : List ℕ} (b : Becomes w w₁ (baseOf d + c) (Starting gathered)) where
+      filled : ChildRow edges word w₁ c (baseOf d + c)
+      filled = record { has = λ a t k trail. b .row .all a k (spelled-from a t trail) }
+
+      quiet : Empty w₁ stepRows mostVertices
+      quiet = keeps-empty (b .keeps) (λ q x e. omega (arith, x .most)) (l .quiet)
+
+      -- staged since the row was made
+      since : {K P : ℕ → Type 0} {w₂ : List ℕ} {r : ℕ} → ((q : ℕ) → InRows parentRows (baseOf d + c) q → K q) → Stages w₁ K P room cnt w₂ r
+          → Stages w (InRows parentRows (baseOf d + c)) P room cnt w₂ r
+      since f s =
+          stages-since (stages-within s f) (b .keeps) (λ q x e. omega (arith, x .most)) (λ q h e. omega (arith, deep, l .chosen .most))
+
+      leaf-none : ((e : ℕ) → Leaf longest (PatternEntry edges) word c e → ⊥)
+          → LeafStages edges digits w d c (Leaf longest (PatternEntry edges) word c) room cnt w₁ cnt
+      leaf-none none = record { stages = since (λ q x. x) (stages-none (l .count) none); child = filled; quiet = quiet }
+
+      -- no edge is gathered
+      pub leaf-empty : n ≡ 0 → LeafStages edges digits w d c (Leaf longest (PatternEntry edges) word c) room cnt w₁ cnt
+      leaf-empty z = leaf-none (λ e p. none-gathered z e (p .holds))
+
+      -- the pattern is no minimum repeat
+      pub leaf-folds : own? (suc c ∷ word) ≡ false → LeafStages edges digits w d c (Leaf longest (PatternEntry edges) word c) room cnt w₁ cnt
+      leaf-folds e = leaf-none (λ x p. test-fails (test-own (suc c ∷ word) (keyed .long)) e (p .pattern .own))
+
+      -- ---- the edges and the word lead where the pattern does
+      kept : LeafStageable edges slots digits w₁ d starts live longest room cnt
+      kept = stageable-kept l (b .keeps) (λ q x e. omega (arith, x .most)) quiet (l .listable) (l .count)
+
+      -- row `starts` is as it was
+      gathers : Gathers (section edges slots c) w₁ starts live′ n
+      gathers =
           record {
-            pattern = record { keyed = keyed; own = test-yields (test-own (suc c ∷ word) (keyed .long)) own };
-            holds = entry-by-as same q;
+            fits = g .fits;
+            only = λ x m. let (i, on) = g .only x m in (i, same x ∙ on);
+            all = λ x m on. g .all x m (sym (same x) ∙ on);
+          }
+        where
+          same : (x : ℕ) → cell w₁ starts (toOf x) ≡ cell w starts (toOf x)
+          same x = keeps-cell (b .keeps) starts (λ e. omega (arith, l .before)) (toOf x) (omega arith)
+
+      led-spans : (a t : ℕ) → Led gathered w₁ a t ↔ Spans edges (suc c ∷ word) a t
+      led-spans a t = (
+        λ h. let v = via (h .to) .0 (h .via) in record {
+          from = h .from;
+          to = h .to;
+          trail = edge-trail (v .small) (v .stands) (kept .parent .rows (v .b) (v .small) .only t (h .to) (v .on));
+        },
+        λ h. let (m, k, stands, trail) = trail-edge (h .trail) in record {
+          from = h .from;
+          to = h .to;
+          via = via (h .to) .1 (record { b = m; small = k; stands = stands; on = kept .parent .rows m k .all t (h .to) trail });
+        },
+      )
+        where
+          via : t < mostVertices → LeadsInto gathered w₁ parentRows a t ↔ Via edges w₁ parentRows a (suc c) t
+          via k = live-via (l .grouped) c small gathers (started kept) k
+
+      pub pattern-stageable : {m : ℕ} → m ≡ code (suc c ∷ word) → PatternStageable gathered w₁ (baseOf d + c) m room cnt
+      pattern-stageable {m} e =
+          record {
+            outgoing = outgoing;
+            least = omega arith;
+            most = omega (arith, deep, l .chosen .most);
+            quiet = quiet;
+            sources = b .row;
+            code-small = omega (arith, e, code-below (l .chosen .most) keyed);
+            count = l .count;
+            there = kept .there;
           }
 
-      back : (x : ℕ) → Leaf longest (PatternEntry edges) word c x → LedEntry edges w (suc c) (code (suc c ∷ word)) x
-      back x q = entry-by-as (λ a b. Iff·symm (same a b)) (q .holds)
+      pub leaf-stages : {m : ℕ} → m ≡ code (suc c ∷ word) → own? (suc c ∷ word) ≡ true → {w₂ : List ℕ} {r : ℕ}
+          → PatternStages w₁ (LedEntry gathered w₁ m) room cnt w₂ r
+          → LeafStages edges digits w d c (Leaf longest (PatternEntry edges) word c) room cnt w₂ r
+      leaf-stages {m} e own {w₂} {r} p =
+          record {
+            stages = since (λ q x. record { least = x .least; most = omega (arith, x .most, deep, l .chosen .most) })
+                (stages-as (rw e at (p .stages)) (λ x. (there x, back x)));
+            child = record {
+              has = λ a t k trail.
+                  keeps-cell (p .stages .keeps) (baseOf d + c) (record { least = omega arith; most = omega (arith, deep, l .chosen .most) }) a k
+                  ∙ filled .has a t k trail;
+            };
+            quiet = p .quiet;
+          }
+        where
+          same : (a t : ℕ) → Plus (Led gathered w₁) a t ↔ Plus (Spans edges (suc c ∷ word)) a t
+          same = plus-as led-spans
 
--- ---- label after label
+          there : (x : ℕ) → LedEntry gathered w₁ (code (suc c ∷ word)) x → Leaf longest (PatternEntry edges) word c x
+          there x q =
+              record {
+                pattern = record { keyed = keyed; own = test-yields (test-own (suc c ∷ word) (keyed .long)) own };
+                holds = entry-by-as same q;
+              }
 
-module _ {edges slots digits w : List ℕ} {d longest room cnt : ℕ} (l : LeafStageable edges slots digits w d longest room cnt) where
-  -- the entries with one of the first c labels before the word
-  abbrev pub LeafEntries : ℕ → ℕ → Type 0
-  LeafEntries c = Some c (Leaf longest (PatternEntry edges) (wordOf digits d))
-
-  pub leaves-none : PatternStages w (LeafEntries 0) room cnt w cnt
-  leaves-none = record { stages = stages-none (l .count) some-none; quiet = l .quiet }
-
-  module _ {w′ : List ℕ} {c n : ℕ} (v : PatternStages w (LeafEntries c) room cnt w′ n) where
-    -- the rows that staging needs are kept
-    pub leaves-stageable : n ≤ room → LeafStageable edges slots digits w′ d longest room n
-    leaves-stageable h =
-        record {
-          slotted = l .slotted;
-          chosen = l .chosen;
-          parent = record { rows = λ a i. keeps-row (v .stages .keeps) (record { least = omega arith; most = omega arith }) (l .parent .rows a i) };
-          children = record {
-            all = λ x a t i j k.
-                keeps-cell (v .stages .keeps) _ (record { least = omega arith; most = omega (arith, l .chosen .more, l .chosen .most) }) a j ∙ l .children .all x a t i j k;
-          };
-          quiet = v .quiet;
-          count = h;
-          there = omega (arith, l .there, v .stages .keeps .len);
-        }
-
-    pub leaves-more : n ≤ room → {w″ : List ℕ} {r : ℕ} → PatternStages w′ (Leaf longest (PatternEntry edges) (wordOf digits d) c) room n w″ r
-        → PatternStages w (LeafEntries (c + 1)) room cnt w″ r
-    leaves-more h f =
-        record {
-          stages = stages-as (stages-then (v .stages) h (leaves-apart (one-pattern (l .chosen .most)) (wordOf digits d) c) (f .stages)) (some-more c);
-          quiet = f .quiet;
-        }
-
-    -- more than fit, with the labels that were not tried yet too
-    pub leaves-over : c ≤ mostLabel → room < n → PatternStages w (LeafEntries mostLabel) room cnt w′ n
-    leaves-over h k = record { stages = stages-over (v .stages) k (λ e. some-up h); quiet = v .quiet }
-
-    pub leaves-all : c ≤ mostLabel → mostLabel ≤ c → PatternStages w (LeafEntries mostLabel) room cnt w′ n
-    leaves-all h k = let e : c ≡ mostLabel = omega arith in subst (λ (m : ℕ). PatternStages w (LeafEntries m) room cnt w′ n) e v
+          back : (x : ℕ) → Leaf longest (PatternEntry edges) word c x → LedEntry gathered w₁ (code (suc c ∷ word)) x
+          back x q = entry-by-as (λ a t. Iff·symm (same a t)) (q .holds)

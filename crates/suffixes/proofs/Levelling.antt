@@ -1,24 +1,25 @@
--- The rows of one word filled: where it leads, and the vertices from which one label more and then the word can be spelled.
+-- The rows of one word: filled with where it leads, used, and emptied.
 use mathlib.Core.Path.{_≡_, _∙_}
-use mathlib.Core.List.{List, _∷_}
-use Prim.Native.Nat.{ℕ, suc, _+_, _-_, _≤_, _<_}
+use mathlib.Core.List.{List}
+use Prim.Native.Nat.{ℕ, _+_, _-_, _≤_}
 use native.Mathlib.Omega.{arith}
-use lib.ListN.{take, drop}
+use native.Mathlib.Decide.{decLt}
+use lib.ListN.{length, take, drop}
 use lib.Seq.{take-all}
 use Rattle.model.specs.Limits.{mostVertices, mostLabel, mostLongest}
 use Rattle.model.specs.Build.Suffixes.{Leaf, Some}
-use Rattle.rows.specs.Region.{savedRows, openRow}
-use Rattle.rows.specs.Rows.{On, InRows}
+use Rattle.rows.specs.Region.{stepRows, parentRows, savedRows}
+use Rattle.rows.specs.Rows.{InRows, Empty}
 use Rattle.rows.proofs.Rows.{keeps-cell, keeps-row, keeps-empty}
 use Rattle.staging.specs.Stage.{Stages}
-use Rattle.staging.proofs.Adding.{stages-since, stages-within}
-use Rattle.steps.specs.Steps.{Trail, Word, Sources, FillsParent, Branchable, Branches}
-use Rattle.steps.proofs.Trails.{trail-edge}
-use Rattle.pattern_entries.specs.Pattern.{PatternStages}
-use Rattle.suffixes.specs.Suffixes.{PatternEntry, wordOf, baseOf, NodeStageable, LeafStageable, LevelStages}
+use Rattle.staging.proofs.Adding.{stages-since, stages-kept, stages-within}
+use Rattle.steps.specs.Filling.{Clears}
+use Rattle.steps.specs.Steps.{Word, ParentFillable, FillsParent, ParentClearable}
+use Rattle.suffixes.specs.Suffixes.{PatternEntry, wordOf, baseOf, NodeStageable, LeafStageable, LeavesStage, LevelStages}
 use Rattle.suffixes.proofs.Children.{word-length}
 
-module _ {edges slots digits w : List ℕ} {d starts longest room cnt : ℕ} (n : NodeStageable edges slots digits w d starts longest room cnt) where
+module _ {edges slots digits w : List ℕ} {d starts : ℕ} {live : List ℕ} {longest room cnt : ℕ}
+    (n : NodeStageable edges slots digits w d starts live longest room cnt) where
   abbrev word : List ℕ
   word = wordOf digits d
 
@@ -29,62 +30,69 @@ module _ {edges slots digits w : List ℕ} {d starts longest room cnt : ℕ} (n 
   lent-is : lent ≡ word
   lent-is = take-all (mostLongest - (mostLongest - d)) word (omega (arith, word-length (n .chosen)))
 
-  pub lent-ready : Word lent × Sources edges lent w
-  lent-ready =
-      rw lent-is (
-        record { short = omega (arith, word-length (n .chosen), n .chosen .more, n .chosen .most); labels = n .chosen .labels },
-        n .sources,
-      )
+  lent-word : Word lent
+  lent-word = rw lent-is (record { short = omega (arith, word-length (n .chosen), n .chosen .more, n .chosen .most); labels = n .chosen .labels })
 
-  -- ---- the parent's rows
+  pub parent-fillable : ParentFillable edges slots lent w live
+  parent-fillable = record { grouped = n .grouped; word = lent-word; sources = rw lent-is (n .sources); quiet = n .quiet; room = n .listable }
+
+  -- ---- the parent's rows filled
   module _ {w₁ : List ℕ} (f : FillsParent edges lent w w₁) where
-    pub branchable : Branchable w₁ starts (baseOf d)
-    branchable =
+    pub leaf-stageable : {live′ : List ℕ} → length edges ≤ length live′ → LeafStageable edges slots digits w₁ d starts live′ longest room cnt
+    leaf-stageable listable =
         record {
-          long = omega (arith, f .keeps .len, n .there);
-          starts-row = omega (arith, n .before, n .chosen .more, n .chosen .most);
-          base-row = omega (arith, n .chosen .more, n .chosen .most);
-          apart = λ a. omega (arith, a .least, n .before);
+          grouped = n .grouped;
+          chosen = n .chosen;
+          parent = rw lent-is at (f .parent);
+          least = n .least;
+          before = n .before;
+          spelled = λ a t k trail. keeps-cell (f .keeps) starts (omega (arith, n .least)) a k ∙ n .spelled a t k trail;
+          quiet = f .quiet;
+          listable = listable;
+          count = n .count;
+          there = omega (arith, n .there, f .keeps .len);
         }
 
-    -- ---- and the children's
-    module _ {w₂ : List ℕ} (b : Branches edges w₁ starts (baseOf d) w₂) where
-      pub leaf-stageable : LeafStageable edges slots digits w₂ d longest room cnt
-      leaf-stageable =
-          let p = rw lent-is at (f .parent) in
-          record {
-            slotted = n .slotted;
-            chosen = n .chosen;
-            parent = record { rows = λ a h. keeps-row (b .keeps) (λ x. omega (arith, x .least)) (p .rows a h) };
-            children = record { all = children };
-            quiet = keeps-empty (b .keeps) (λ r x y. omega (arith, x .most, y .least)) (f .quiet);
-            count = n .count;
-            there = omega (arith, b .keeps .len, f .keeps .len, n .there);
-          }
-        where
-          children : (c a t : ℕ) → c < mostLabel → a < mostVertices → Trail edges a (suc c ∷ word) t → On w₂ (baseOf d + c) a
-          children c a t h k trail =
-              let (m, l, stands, rest) = trail-edge trail in
-              let on = keeps-cell (f .keeps) starts (omega (arith, n .least)) m l ∙ n .spelled m t l rest in
-              b .rows c h .all a k (record { b = m; small = l; stands = stands; on = on })
+    -- ---- the leaves staged
+    abbrev LeafEntries : ℕ → Type 0
+    LeafEntries = Some mostLabel (Leaf longest (PatternEntry edges) word)
 
-      pub level-stages : {w₃ : List ℕ} {r : ℕ} → PatternStages w₂ (Some mostLabel (Leaf longest (PatternEntry edges) word)) room cnt w₃ r
-          → LevelStages edges digits w d (Some mostLabel (Leaf longest (PatternEntry edges) word)) room cnt w₃ r
-      level-stages {w₃} {r} v =
+    module _ {w₂ : List ℕ} {r : ℕ} (v : LeavesStage edges digits w₁ d mostLabel LeafEntries room cnt w₂ r) where
+      pub parent-clearable : ParentClearable edges slots lent w₂
+      parent-clearable =
           record {
-            stages = stages-since branched (f .keeps) (λ q x. x .least) (λ q l. omega arith);
-            children = record {
-              all = λ c a t h k trail.
-                  keeps-cell (v .stages .keeps) (baseOf d + c) (record { least = omega arith; most = omega (arith, deep) }) a k
-                  ∙ leaf-stageable .children .all c a t h k trail;
+            grouped = n .grouped;
+            word = lent-word;
+            long = omega (arith, n .there, f .keeps .len, v .stages .keeps .len);
+            parent = record {
+              rows = λ a h. keeps-row (v .stages .keeps) (record { least = omega arith; most = omega arith }) (f .parent .rows a h);
+            };
+          }
+
+      -- ---- the parent's rows emptied
+      pub level-stages : {w₃ : List ℕ} → Clears w₂ w₃ parentRows mostVertices → LevelStages edges digits w d LeafEntries room cnt w₃ r
+      level-stages {w₃} e =
+          record {
+            stages = stages-since cleared (f .keeps) (λ q x. x .least) (λ q h. omega arith);
+            children = λ h. record {
+              all = λ c k. record {
+                has = λ a t i trail.
+                    keeps-cell (e .keeps) (baseOf d + c) (λ x. omega (arith, x .most)) a i ∙ v .children h .all c k .has a t i trail;
+              };
+            };
+            quiet = record {
+              none = λ q j x k on. elim (decLt q parentRows) [
+                | yes l ↦ first .none q j (record { least = x .least; most = omega arith }) k on
+                | no l ↦ e .empty .none q j (record { least = omega arith; most = omega (arith, x .most) }) k on
+              ];
             };
           }
         where
-          deep : baseOf d + mostLabel ≤ openRow
-          deep = omega (arith, n .chosen .more, n .chosen .most)
+          first : Empty w₃ stepRows mostVertices
+          first = keeps-empty (e .keeps) (λ q x y. omega (arith, x .most, y .least)) (v .quiet)
 
-          within : Stages w₂ (InRows savedRows (baseOf d)) (Some mostLabel (Leaf longest (PatternEntry edges) word)) room cnt w₃ r
-          within = stages-within (v .stages) (λ q x. record { least = omega (arith, x .least); most = omega (arith, x .most, deep) })
+          within : Stages w₁ (InRows savedRows (baseOf d)) LeafEntries room cnt w₂ r
+          within = stages-within (v .stages) (λ q x. record { least = omega (arith, x .least); most = x .most })
 
-          branched : Stages w₁ (InRows savedRows (baseOf d)) (Some mostLabel (Leaf longest (PatternEntry edges) word)) room cnt w₃ r
-          branched = stages-since within (b .keeps) (λ q x y. omega (arith, x .most, y .least)) (λ q l y. omega (arith, y .most, deep))
+          cleared : Stages w₁ (InRows savedRows (baseOf d)) LeafEntries room cnt w₃ r
+          cleared = stages-kept within (e .keeps) (λ q x y. omega (arith, x .least, y .most)) (λ q h y. omega (arith, y .most))

@@ -1,6 +1,7 @@
 pub mod Own
 pub mod Entries
 pub mod Children
-pub mod Levelling
 pub mod Leafing
+pub mod Labels
+pub mod Levelling
 pub mod Noding

@@ -9,11 +9,7 @@ ghost use Rattle.model.specs.Limits.{mostLabel, mostLongest};
 ghost use Rattle.model.specs.Patterns.{Keyed};
 ghost use Rattle.model.specs.Computed.Patterns.{own?};
 ghost use Rattle.model.specs.Build.Suffixes.{Leaf, Some, Beyond};
-ghost use Rattle.rows.specs.Region.{savedRows};
-ghost use Rattle.rows.specs.Rows.{InRows};
-ghost use Rattle.staging.specs.Stage.{Stages};
-ghost use Rattle.pattern_entries.specs.Pattern.{PatternStages};
-ghost use Rattle.suffixes.specs.Suffixes.{PatternEntry, wordOf, baseOf, Child, NodeStageable, LeafStageable, LevelStages};
+ghost use Rattle.suffixes.specs.Suffixes.{PatternEntry, wordOf, Child, NodeStageable, NodeStages, LeafStageable, LeafStages, LeavesStage, LevelStages};
 
 // The place of the last digit.
 const LAST: usize = MOST_LONGEST - 1;
@@ -38,7 +34,7 @@ fn is_own(pattern: &[u8]) -> bool
     length == pattern.len()
 }
 
-// Stages the entries whose pattern is label c + 1 and the word.
+// Fills the row of label c + 1, of those for one label more, and stages the entries whose pattern is that label and the word.
 fn leaf(
     edges: &[u32],
     slots: &[usize],
@@ -46,22 +42,29 @@ fn leaf(
     d: usize,
     c: usize,
     w: &mut [u64],
+    starts: usize,
+    live: &mut [u32],
     longest: usize,
     room: usize,
     cnt: usize,
 ) -> usize
-    requires { ⌜ LeafStageable (now edges) (now slots) digits (now w) d longest room cnt × (c < mostLabel) ⌝ }
-    ensures { λ r. ⌜ PatternStages (now (w .entry)) (Leaf longest (PatternEntry (now (edges .entry))) (wordOf digits d) c) room cnt (now (w .exit)) r ⌝ }
+    requires { ⌜ LeafStageable (now edges) (now slots) digits (now w) d starts (now live) longest room cnt × (c < mostLabel) ⌝ }
+    ensures { λ r. ⌜
+        LeafStages (now (edges .entry)) digits (now (w .entry)) d c (Leaf longest (PatternEntry (now (edges .entry))) (wordOf digits d) c) room cnt
+        (now (w .exit)) r
+        ⌝ }
 {
     let row = rows::CHILDREN + MOST_LABEL * d + c;
-    if rows::next(w, row, 0) == MOST_VERTICES {
+    let n = steps::gather(&edges[slots[c]..slots[c + 1]], w, starts, live);
+    steps::sources(&live[..n], w, row);
+    if n == 0 {
         return cnt;
     }
     let next = child(digits, d, c);
     let start = LAST - d;
     if is_own(&next[start..]) {
         let code = patterns::code(&next[start..]);
-        return pattern_entries::stage(edges, slots, (c + 1) as u32, w, row, code, room, cnt);
+        return pattern_entries::stage(&live[..n], w, row, code, room, cnt);
     }
     cnt
 }
@@ -73,19 +76,22 @@ fn leaves(
     digits: [u8; MOST_LONGEST],
     d: usize,
     w: &mut [u64],
+    start: usize,
+    live: &mut [u32],
     longest: usize,
     room: usize,
     cnt: usize,
 ) -> usize
-    requires { ⌜ LeafStageable (now edges) (now slots) digits (now w) d longest room cnt ⌝ }
+    requires { ⌜ LeafStageable (now edges) (now slots) digits (now w) d start (now live) longest room cnt ⌝ }
     ensures { λ r. ⌜
-        PatternStages (now (w .entry)) (Some mostLabel (Leaf longest (PatternEntry (now (edges .entry))) (wordOf digits d))) room cnt (now (w .exit)) r
+        LeavesStage (now (edges .entry)) digits (now (w .entry)) d mostLabel
+        (Some mostLabel (Leaf longest (PatternEntry (now (edges .entry))) (wordOf digits d))) room cnt (now (w .exit)) r
         ⌝ }
 {
     let mut n = cnt;
     let mut c = 0;
     while c < MOST_LABEL {
-        n = leaf(edges, slots, digits, d, c, w, longest, room, n);
+        n = leaf(edges, slots, digits, d, c, w, start, live, longest, room, n);
         if room < n {
             return n;
         }
@@ -94,7 +100,7 @@ fn leaves(
     n
 }
 
-// Fills the rows of the word and of one label more, and stages the entries with one label before the word.
+// Fills the rows of the word and of one label more, stages the entries with one label before the word, and empties the rows of the word.
 fn level(
     edges: &[u32],
     slots: &[usize],
@@ -102,23 +108,25 @@ fn level(
     d: usize,
     w: &mut [u64],
     starts: usize,
+    live: &mut [u32],
     longest: usize,
     room: usize,
     cnt: usize,
 ) -> usize
-    requires { ⌜ NodeStageable (now edges) (now slots) digits (now w) d starts longest room cnt ⌝ }
+    requires { ⌜ NodeStageable (now edges) (now slots) digits (now w) d starts (now live) longest room cnt ⌝ }
     ensures { λ r. ⌜
         LevelStages (now (edges .entry)) digits (now (w .entry)) d
         (Some mostLabel (Leaf longest (PatternEntry (now (edges .entry))) (wordOf digits d))) room cnt (now (w .exit)) r
         ⌝ }
 {
     let start = MOST_LONGEST - d;
-    steps::fill_parent(edges, slots, &digits[start..], w);
-    steps::branch(edges, w, starts, rows::CHILDREN + MOST_LABEL * d);
-    leaves(edges, slots, digits, d, w, longest, room, cnt)
+    steps::fill_parent(edges, slots, &digits[start..], w, live);
+    let n = leaves(edges, slots, digits, d, w, starts, live, longest, room, cnt);
+    steps::clear_parent(edges, slots, &digits[start..], w);
+    n
 }
 
-// Stages the entries whose patterns have one label or more before the d labels chosen so far.
+// Stages the entries whose patterns have one label or more before the d labels chosen so far. `live` is room for edges.
 pub fn node(
     edges: &[u32],
     slots: &[usize],
@@ -126,16 +134,17 @@ pub fn node(
     d: usize,
     w: &mut [u64],
     starts: usize,
+    live: &mut [u32],
     longest: usize,
     room: usize,
     cnt: usize,
 ) -> usize
-    requires { ⌜ NodeStageable (now edges) (now slots) digits (now w) d starts longest room cnt ⌝ }
+    requires { ⌜ NodeStageable (now edges) (now slots) digits (now w) d starts (now live) longest room cnt ⌝ }
     ensures { λ r. ⌜
-        Stages (now (w .entry)) (InRows savedRows (baseOf d)) (Beyond longest (PatternEntry (now (edges .entry))) (wordOf digits d)) room cnt (now (w .exit)) r
+        NodeStages (now (w .entry)) d (Beyond longest (PatternEntry (now (edges .entry))) (wordOf digits d)) room cnt (now (w .exit)) r
         ⌝ }
 {
-    let mut n = level(edges, slots, digits, d, w, starts, longest, room, cnt);
+    let mut n = level(edges, slots, digits, d, w, starts, live, longest, room, cnt);
     if room < n {
         return n;
     }
@@ -147,7 +156,7 @@ pub fn node(
         let row = rows::CHILDREN + MOST_LABEL * d + c;
         if rows::next(w, row, 0) < MOST_VERTICES {
             let next = child(digits, d, c);
-            n = node(edges, slots, next, d + 1, w, row, longest, room, n);
+            n = node(edges, slots, next, d + 1, w, row, live, longest, room, n);
             if room < n {
                 return n;
             }

@@ -1,47 +1,73 @@
 -- `build::stage` meets its contract: renumbered, and staged from the empty word on.
-use mathlib.Core.Path.{_≡_, sym}
-use lib.ListN.{length, take}
+use mathlib.Core.Path.{sym}
+use Prim.Native.Nat.{ℕ}
+use lib.ListN.{length, replicate, length-replicate}
 use lib.Seq.{length-take-le}
 use native.Mathlib.Omega.{arith}
 use borrow.Author.Needs.{needs}
+use Rattle.model.specs.Limits.{mostEdges}
 use Rattle.build.proofs.Staged.{node-stageable, graph-stages}
 use Rattle.build.proofs.stage.Statement.{statement}
 use Rattle.build.proofs.stage.Tie as tie
 
--- as many numbers are lent as there are edges
-front : (c : tie.After-renumber) → length (c .before .before .before .before .args .edges .now) ≡ length (take (length (c .before .before .before .before .args .edges .now)) (c .renumber .result))
-front c = sym (length-take-le _ (c .renumber .result) (omega (arith, c .renumber .ensures .long, c .before .before .before .before .pre .ordered .few)))
+slice-aggregate-renumber : tie.Need-slice-aggregate-renumber
+slice-aggregate-renumber c = search needs
 
-slice-aggregate-first-slots : tie.Need-slice-aggregate-first-slots
-slice-aggregate-first-slots c = front (c .before)
+renumber-requires : tie.Need-renumber-requires
+renumber-requires c κs = search needs
+
+clear-rows-requires : tie.Need-clear-rows-requires
+clear-rows-requires c κs = omega (arith, c .before .before .before .before .before .before .before .pre .work)
+
+fill-requires : tie.Need-fill-requires
+fill-requires c κs =
+    search needs
+
+array-share-prefix-renumbered : tie.Need-array-share-prefix-renumbered
+array-share-prefix-renumbered c = search needs
 
 slice-aggregate-node : tie.Need-slice-aggregate-node
-slice-aggregate-node c = front (c .before .before .before .before .before .before .before)
+slice-aggregate-node c =
+    let renumber = c .before .before .before .before .before .before .before .before .before .before in
+    let start = renumber .before .before .before .before .before in
+    sym (length-take-le (length (start .args .edges .now)) (renumber .renumber .last .1 .1 .1 .0)
+    (omega (arith, renumber .renumber .kept .1 .1 .1 .0, length-replicate {A = ℕ} mostEdges 0, start .pre .ordered .few)))
+
+slice-aggregate-node-2 : tie.Need-slice-aggregate-node-2
+slice-aggregate-node-2 c = search needs
+
+slice-aggregate-node-3 : tie.Need-slice-aggregate-node-3
+slice-aggregate-node-3 c = search needs
 
 node-requires : tie.Need-node-requires
 node-requires c κs =
-    let root = c .before .before .before .before .before in
-    let slots = root .before .before in
-    let renumber = slots .before .before in
-    let pre = renumber .before .before .before .before .pre in
+    let root = c .before .before .before .before .before .before in
+    let clear = root .before .before .before .before in
+    let renumber = clear .before .before .before in
+    let pre = renumber .before .before .before .before .before .pre in
     node-stageable
     pre
     (renumber .renumber .ensures)
-    (slots .first-slots .ensures)
+    (clear .clear-rows .ensures)
     (root .fill .ensures)
+    (replicate mostEdges 0)
+    (omega (arith, length-replicate {A = ℕ} mostEdges 0))
     (omega (arith, pre .bounds .longest-least))
     (omega (arith, pre .bounds .longest-most))
 
+same-length : tie.Need-same-length
+same-length c = search needs
+
 returns : tie.Need-returns
 returns c =
-    let node = c .before .before in
-    let root = node .before .before .before .before .before .before in
-    let slots = root .before .before in
-    let renumber = slots .before .before in
+    let node = c .before .before .before in
+    let root = node .before .before .before .before .before .before .before in
+    let clear = root .before .before .before .before in
+    let renumber = clear .before .before .before in
     graph-stages
-    (renumber .before .before .before .before .pre)
+    (renumber .before .before .before .before .before .pre)
     (renumber .renumber .ensures)
-    (slots .first-slots .ensures)
+    (clear .clear-rows .ensures)
     (root .fill .ensures)
     (node .node .ensures)
 
@@ -49,14 +75,14 @@ pub stage-spec : {M : Type 1} → statement M
 stage-spec =
     tie.close
     (tie.spec
-    (λ c κs. search needs)
-    (λ c. search needs)
-    slice-aggregate-first-slots
-    (λ c κs. search needs)
-    (λ c κs. search needs)
-    (λ c. search needs)
+    slice-aggregate-renumber
+    renumber-requires
+    clear-rows-requires
+    fill-requires
+    array-share-prefix-renumbered
     slice-aggregate-node
-    (λ c. search needs)
+    slice-aggregate-node-2
+    slice-aggregate-node-3
     node-requires
-    (λ c. search needs)
+    same-length
     returns)

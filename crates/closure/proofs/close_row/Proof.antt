@@ -18,10 +18,12 @@ abbrev μ-loop : tie.MeasureT-loop
 μ-loop w₀ domain a w = sum (cell w openRow) mostVertices
 
 long : (c : tie.At-loop Inv-loop μ-loop) → leastWork ≤ length (c .loop .w)
-long c = omega (arith, c .loop .inv .keeps .len, c .before .before .before .copy .ensures .keeps .len, c .before .before .before .before .before .before .pre .domain .long)
+long c =
+    let opened = c .before .before .before in
+    omega (arith, c .loop .inv .keeps .len, opened .copy .ensures .keeps .len, opened .before .before .before .pre .domain .long)
 
-below : (c : tie.After-next Inv-loop μ-loop) → (c .next .result ≡ mostVertices → ⊥) → c .next .result < mostVertices
-below c h = omega (arith, c .next .ensures .high)
+below : (c : tie.After-common Inv-loop μ-loop) → (c .common .result ≡ mostVertices → ⊥) → c .common .result < mostVertices
+below c h = omega (arith, c .common .ensures .high)
 
 copy-requires : tie.Need-copy-requires Inv-loop μ-loop
 copy-requires c κs = omega (arith, c .before .before .pre .domain)
@@ -29,43 +31,39 @@ copy-requires c κs = omega (arith, c .before .before .pre .domain)
 loop-holds : tie.Need-loop-holds Inv-loop μ-loop
 loop-holds c = opened-none (c .before .before .before .before .before .pre) (c .before .before .copy .ensures)
 
-intersect-requires : tie.Need-intersect-requires Inv-loop μ-loop
-intersect-requires c κs = omega (arith, long (c .before), c .before .before .before .before .before .before .before .pre .row)
-
-next-requires : tie.Need-next-requires Inv-loop μ-loop
-next-requires c κs = omega (arith, long (c .before .before .before .before .before), c .before .before .before .intersect .ensures .keeps .len)
+common-requires : tie.Need-common-requires Inv-loop μ-loop
+common-requires c κs = omega (arith, long (c .before), c .before .before .before .before .before .before .before .pre .row)
 
 same-length : tie.Need-same-length Inv-loop μ-loop
 same-length c =
-    let turn = c .before .before .before .before .before .before .before in
-    c .before .before .before .before .before .intersect .ensures .keeps .len ∙ turn .loop .inv .keeps .len ∙ turn .before .before .before .copy .ensures .keeps .len
+    let turn = c .before .before .before in
+    turn .loop .inv .keeps .len ∙ turn .before .before .before .copy .ensures .keeps .len
 
 returns : tie.Need-returns Inv-loop μ-loop
 returns c =
-    let turn = c .before .before .before .before .before .before .before in
+    let turn = c .before .before .before in
     let start = turn .before .before .before .before .before .before in
-    opened-closed (start .pre) (turn .before .before .before .copy .ensures)
-    (looked-all (turn .loop .inv) (start .pre .row) (c .before .before .before .before .before .intersect .ensures) (c .before .next .ensures) (c .if1 .taken))
+    opened-closed (start .pre) (turn .before .before .before .copy .ensures) (looked-all (turn .loop .inv) (c .before .common .ensures) (c .if1 .taken))
 
 take-in-requires : tie.Need-take-in-requires Inv-loop μ-loop
 take-in-requires c κs =
-    let turn = c .before .before .before .before .before .before .before .before in
-    omega (arith, long turn, c .before .before .before .before .before .before .intersect .ensures .keeps .len, turn .before .before .before .before .before .before .pre .row, c .before .before .next .ensures .high)
+    let turn = c .before .before .before .before in
+    omega (arith, long turn, turn .before .before .before .before .before .before .pre .row, c .before .before .common .ensures .high)
 
 loop-less : tie.Need-loop-less Inv-loop μ-loop
 loop-less c =
-    let next = c .before .before .before .before .before in
-    let turn = next .before .before .before .before .before .before in
-    let start = turn .before .before .before .before .before .before in
-    looked-falls (turn .loop .inv) (start .pre .row) (next .before .before .before .before .intersect .ensures) (next .next .ensures) (below next (c .before .before .before .before .if1 .left)) (c .before .before .take-in .ensures)
+    let found = c .before .before .before .before .before in
+    let l = below found (c .before .before .before .before .if1 .left) in
+    looked-falls (found .before .before .loop .inv) (found .common .ensures) l (c .before .before .take-in .ensures)
 
 loop-again : tie.Need-loop-again Inv-loop μ-loop
 loop-again c =
-    let next = c .before .before .before .before .before in
-    let turn = next .before .before .before .before .before .before in
+    let found = c .before .before .before .before .before in
+    let turn = found .before .before in
     let start = turn .before .before .before .before .before .before in
-    looked-more (turn .loop .inv) (start .pre .row) (next .before .before .before .before .intersect .ensures) (next .next .ensures) (below next (c .before .before .before .before .if1 .left)) (c .before .before .take-in .ensures)
-    (opened-whole (start .pre) (turn .before .before .before .copy .ensures))
+    let l = below found (c .before .before .before .before .if1 .left) in
+    looked-more (turn .loop .inv) (found .common .ensures) l (c .before .before .take-in .ensures)
+    (start .pre .row) (opened-whole (start .pre) (turn .before .before .before .copy .ensures))
 
 pub close-row-spec : {M : Type 1} → statement M
 close-row-spec =
@@ -75,8 +73,7 @@ close-row-spec =
     μ-loop
     copy-requires
     loop-holds
-    intersect-requires
-    next-requires
+    common-requires
     same-length
     returns
     take-in-requires

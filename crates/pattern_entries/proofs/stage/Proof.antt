@@ -1,29 +1,22 @@
--- `pattern_entries::stage` meets its contract: filled, closed, staged, emptied.
+-- `pattern_entries::stage` meets its contract: filled, staged, emptied.
 use borrow.Author.Needs.{needs}
-use Rattle.pattern_entries.proofs.Patterning.{fillable, domain, stageable, clearable, pattern-stages}
+use Rattle.pattern_entries.proofs.Patterning.{fillable, ready, clearable, pattern-stages}
 use Rattle.pattern_entries.proofs.stage.Statement.{statement}
 use Rattle.pattern_entries.proofs.stage.Tie as tie
 
 fill-requires : tie.Need-fill-requires
-fill-requires c κs = let pre = c .before .before .before .before .pre in (pre .slotted, fillable pre)
+fill-requires c κs = fillable (c .before .before .before .pre)
 
-close-requires : tie.Need-close-requires
-close-requires c κs =
+stage-filled-requires : tie.Need-stage-filled-requires
+stage-filled-requires c κs =
     let fill = c .before .before .before in
-    domain (fill .before .before .before .before .before .pre) (fill .fill .ensures)
+    ready (fill .before .before .before .before .pre) (fill .fill .ensures)
 
-stage-requires : tie.Need-stage-requires
-stage-requires c κs =
-    let close = c .before .before .before in
-    let fill = close .before .before .before .before in
-    stageable (fill .before .before .before .before .before .pre) (fill .fill .ensures) (close .close .ensures)
-
-clear-steps-requires : tie.Need-clear-steps-requires
-clear-steps-requires c κs =
+clear-sources-requires : tie.Need-clear-sources-requires
+clear-sources-requires c κs =
     let staged = c .before .before .before in
-    let close = staged .before .before .before .before in
-    let fill = close .before .before .before .before in
-    clearable (fill .before .before .before .before .before .pre) (fill .fill .ensures) (close .close .ensures) (staged .stage .ensures)
+    let fill = staged .before .before .before .before in
+    clearable (fill .before .before .before .before .pre) (fill .fill .ensures) (staged .stage-filled .ensures)
 
 same-length : tie.Need-same-length
 same-length c = search needs
@@ -32,14 +25,8 @@ returns : tie.Need-returns
 returns c =
     let clear = c .before .before in
     let staged = clear .before .before .before .before in
-    let close = staged .before .before .before .before in
-    let fill = close .before .before .before .before in
-    pattern-stages
-    (fill .before .before .before .before .before .pre)
-    (fill .fill .ensures)
-    (close .close .ensures)
-    (staged .stage .ensures)
-    (clear .clear-steps .ensures)
+    let fill = staged .before .before .before .before in
+    pattern-stages (fill .before .before .before .before .pre) (fill .fill .ensures) (staged .stage-filled .ensures) (clear .clear-sources .ensures)
 
 pub stage-spec : {M : Type 1} → statement M
-stage-spec = tie.close (tie.spec fill-requires close-requires stage-requires clear-steps-requires same-length returns)
+stage-spec = tie.close (tie.spec fill-requires stage-filled-requires clear-sources-requires same-length returns)

@@ -1,130 +1,182 @@
--- `steps::fill_parent` meets its contract: the rows from `from` on are those of the labels from number i on.
-use mathlib.Core.Path.{refl, _∙_}
-use Prim.Native.Nat.{ℕ, _-_, _≤_}
-use mathlib.Core.List.{List}
+-- `steps::fill_parent` meets its contract: the rows from `from` on are those of the labels from number i on, and the other half is empty.
+use mathlib.Core.Path.{_≡_, refl, _∙_}
+use Prim.Native.Nat.{ℕ, _-_, _≤_, _<_}
 use native.Mathlib.Omega.{arith}
 use lib.ListN.{length, getD}
-use Rattle.model.specs.Limits.{mostLabel, leastWork}
+use Rattle.model.specs.Limits.{mostLabel}
 use Rattle.rows.specs.Region.{savedRows}
 use Rattle.rows.specs.Rows.{KeepsRows}
-use Rattle.rows.proofs.Rows.{keeps-then, keeps-long}
-use Rattle.steps.proofs.Prepending.{Prepending, halves-keep, prepending-none, prepending-half, prepending-clear, label-range, prepending-fillable, prepending-more, prepending-all}
+use Rattle.steps.proofs.Turning.{halves-keep, label-range, Turning, ends-fillable, turning-last, turning-range, turning-prependable, turning-more, turning-all, no-label, half-empty}
 use Rattle.steps.proofs.fill_parent.Statement.{statement}
 use Rattle.steps.proofs.fill_parent.Tie as tie
 
 abbrev Inv-loop : tie.InvT-loop
-Inv-loop edges slots word w₀ i₀ from₀ w i from = Prepending edges word w₀ w from i
+Inv-loop edges slots word w₀ live₀ i₀ c₀ from₀ w live i c from = Turning edges word w₀ w i c from × (length live ≡ length live₀)
 
 abbrev μ-loop : tie.MeasureT-loop
-μ-loop edges slots word w₀ i₀ from₀ w i from = i
+μ-loop edges slots word w₀ live₀ i₀ c₀ from₀ w live i c from = i
 
--- where the function and the loop begin
+-- where the function begins, before a word with labels, and before the loop
+abbrev begin : tie.Else1 Inv-loop μ-loop → tie.Start Inv-loop μ-loop
+begin c = c .before .before .before .before .before .before
+
+abbrev ends : tie.At-loop Inv-loop μ-loop → tie.After-fill-ends Inv-loop μ-loop
+ends c = c .before .before .before
+
 abbrev start : tie.At-loop Inv-loop μ-loop → tie.Start Inv-loop μ-loop
-start c = c .before .before .before .before .before .before .before .before .before .before .before .before .before
+start c = begin (ends c .before .before .before .before)
 
-abbrev begun : tie.At-loop Inv-loop μ-loop → List ℕ
-begun c = c .before .before .before .fill-identity .last .0
+-- the last label
+some : (c : tie.Else1 Inv-loop μ-loop) → 1 ≤ length (begin c .args .word .now)
+some c = omega (arith, c .if1 .left)
 
--- before the loop only the step rows and the parent's change
-since : (c : tie.At-loop Inv-loop μ-loop) → KeepsRows (start c .args .w .now) (begun c) (λ r. savedRows ≤ r)
-since c =
-    let identity = c .before .before .before in
-    keeps-then
-    (halves-keep (omega arith) (identity .before .before .before .before .clear-rows .ensures .keeps))
-    (halves-keep (omega arith) (identity .fill-identity .ensures .keeps))
+last : (c : tie.Else1 Inv-loop μ-loop) → length (begin c .args .word .now) - 1 < length (begin c .args .word .now)
+last c = omega (arith, some c)
 
-long : (c : tie.At-loop Inv-loop μ-loop) → leastWork ≤ length (c .loop .w)
-long c = keeps-long (c .loop .inv .keeps) (keeps-long (since c) (start c .pre .1 .1 .long))
+abbrev last-label : tie.Else1 Inv-loop μ-loop → ℕ
+last-label c = getD (begin c .args .word .now) (length (begin c .args .word .now) - 1) 0
 
--- the label at hand is one
-abbrev label-at : tie.In-loop Inv-loop μ-loop → ℕ
-label-at c = getD (start (c .before) .args .word .now) (c .before .loop .i - 1) 0
+last-range : (c : tie.Else1 Inv-loop μ-loop) → (1 ≤ last-label c) × (last-label c ≤ mostLabel)
+last-range c = label-range (begin c .pre .word) (length (begin c .args .word .now) - 1) (last c)
 
-range : (c : tie.In-loop Inv-loop μ-loop) → (1 ≤ label-at c) × (label-at c ≤ mostLabel)
-range c =
-    let pre = start (c .before) .pre .1 in
-    label-range (c .before .loop .inv) (pre .0) (pre .1) (since (c .before)) (c .loop-test .taken) refl
+-- before the loop only one half changes
+since : (c : tie.At-loop Inv-loop μ-loop) → KeepsRows (start c .args .w .now) (ends c .fill-ends .last .1 .0) (λ r. savedRows ≤ r)
+since c = halves-keep (omega arith) (ends c .fill-ends .ensures .keeps)
 
-clear-rows-requires : tie.Need-clear-rows-requires Inv-loop μ-loop
-clear-rows-requires c κs = (omega arith, c .before .before .before .before .before .pre .1 .1 .long)
+-- the label in front of those passed
+front : (c : tie.In-loop Inv-loop μ-loop) → c .before .loop .i - 1 < length (start (c .before) .args .word .now)
+front c = omega (arith, c .before .loop .inv .0 .inside)
+
+abbrev front-label : tie.In-loop Inv-loop μ-loop → ℕ
+front-label c = getD (start (c .before) .args .word .now) (c .before .loop .i - 1) 0
+
+front-range : (c : tie.In-loop Inv-loop μ-loop) → (1 ≤ front-label c) × (front-label c ≤ mostLabel)
+front-range c = label-range (start (c .before) .pre .word) (c .before .loop .i - 1) (front c)
+
+range : (c : tie.In-loop Inv-loop μ-loop) → (1 ≤ c .before .loop .c) × (c .before .loop .c ≤ mostLabel)
+range c = let pre = start (c .before) .pre in turning-range (c .before .loop .inv .0) (pre .grouped) (pre .word)
+
+-- ---- no label
 
 fill-identity-requires : tie.Need-fill-identity-requires Inv-loop μ-loop
 fill-identity-requires c κs =
-    let clear = c .before .before .before in
-    record { long = keeps-long (clear .clear-rows .ensures .keeps) (clear .before .before .before .before .before .before .pre .1 .1 .long); base-rows = omega arith; empty = clear .clear-rows .ensures .empty }
-
-loop-holds : tie.Need-loop-holds Inv-loop μ-loop
-loop-holds c = prepending-none refl (c .before .before .fill-identity .ensures)
-
-sub-i : tie.Need-sub-i Inv-loop μ-loop
-sub-i c = omega (arith, c .loop-test .taken)
-
-shared-slice-read-label : tie.Need-shared-slice-read-label Inv-loop μ-loop
-shared-slice-read-label c = omega (arith, c .before .loop-test .taken, c .before .before .loop .inv .most)
-
-cast-label : tie.Need-cast-label Inv-loop μ-loop
-cast-label c = omega (arith, range (c .before))
-
-sub-starts : tie.Need-sub-starts Inv-loop μ-loop
-sub-starts c = omega (arith, c .before .loop-test .taken, c .before .before .loop .inv .most)
-
-sub-starts-2 : tie.Need-sub-starts-2 Inv-loop μ-loop
-sub-starts-2 c = omega (arith, c .before .loop-test .taken, c .before .before .loop .inv .most)
-
-mul-starts : tie.Need-mul-starts Inv-loop μ-loop
-mul-starts c = omega (arith, start (c .before .before) .pre .1 .0 .short)
-
-add-starts : tie.Need-add-starts Inv-loop μ-loop
-add-starts c = omega (arith, start (c .before .before) .pre .1 .0 .short)
-
-add-starts-2 : tie.Need-add-starts-2 Inv-loop μ-loop
-add-starts-2 c = omega (arith, start (c .before .before) .pre .1 .0 .short, range (c .before))
-
-sub-starts-3 : tie.Need-sub-starts-3 Inv-loop μ-loop
-sub-starts-3 c = omega (arith, range (c .before))
-
-sub-to : tie.Need-sub-to Inv-loop μ-loop
-sub-to c = omega (arith, c .before .before .loop .inv .half)
-
-clear-rows-requires-2 : tie.Need-clear-rows-requires-2 Inv-loop μ-loop
-clear-rows-requires-2 c κs = (omega (arith, prepending-half (c .before .before .before .loop .inv)), long (c .before .before .before))
-
-cast-fill : tie.Need-cast-fill Inv-loop μ-loop
-cast-fill c = omega (arith, range (c .before .before .before .before .before))
-
-fill-requires : tie.Need-fill-requires Inv-loop μ-loop
-fill-requires c κs =
-    let clear = c .before .before .before in
-    let turn = clear .before .before .before in
-    let loop = turn .before in
-    let pre = start loop .pre in
-    let cleared = clear .clear-rows2 .ensures in
-    (pre .0, prepending-fillable (prepending-clear (loop .loop .inv) refl cleared) (pre .1 .0) (pre .1 .1) (since loop) (turn .loop-test .taken) refl refl refl refl cleared)
-
-loop-less : tie.Need-loop-less Inv-loop μ-loop
-loop-less c = omega (arith, c .before .before .before .before .before .before .before .before .before .loop-test .taken)
-
-loop-again : tie.Need-loop-again Inv-loop μ-loop
-loop-again c =
-    let fill = c .before .before in
-    let clear = fill .before .before .before .before in
-    let turn = clear .before .before .before in
-    let loop = turn .before in
-    let pre = start loop .pre in
-    prepending-more (prepending-clear (loop .loop .inv) refl (clear .clear-rows2 .ensures)) (pre .1 .0) (pre .1 .1) (since loop) (turn .loop-test .taken) refl refl refl (fill .fill .ensures)
-
-clear-rows-requires-3 : tie.Need-clear-rows-requires-3 Inv-loop μ-loop
-clear-rows-requires-3 c κs = (omega arith, long (c .before .before))
+    let pre = c .before .before .before .before .before .before .before .pre in
+    record { long = pre .sources .long; base-rows = omega arith; empty = half-empty (omega arith) (pre .quiet) }
 
 same-length : tie.Need-same-length Inv-loop μ-loop
-same-length c =
-    let left = c .before .before .before .before in
-    c .before .before .clear-rows3 .ensures .keeps .len ∙ (left .before .loop .inv .keeps .len ∙ since (left .before) .len)
+same-length c = c .before .before .fill-identity .ensures .keeps .len
 
 returns : tie.Need-returns Inv-loop μ-loop
 returns c =
-    let left = c .before .before .before .before in
-    prepending-all (left .before .loop .inv) (since (left .before)) (left .loop-test .left) (c .before .before .clear-rows3 .ensures)
+    let filled = c .before .before in
+    let test = filled .before .before in
+    let begun = test .before .before .before .before .before .before in
+    no-label (begun .args .word .now) (test .if1 .taken) (begun .pre .quiet) (filled .fill-identity .ensures)
+
+-- ---- the last label
+
+sub-i : tie.Need-sub-i Inv-loop μ-loop
+sub-i c = some c
+
+shared-slice-read-c : tie.Need-shared-slice-read-c Inv-loop μ-loop
+shared-slice-read-c c = last (c .before)
+
+cast-c : tie.Need-cast-c Inv-loop μ-loop
+cast-c c = omega (arith, last-range (c .before))
+
+mul-from : tie.Need-mul-from Inv-loop μ-loop
+mul-from c = omega arith
+
+sub-from : tie.Need-sub-from Inv-loop μ-loop
+sub-from c = omega arith
+
+labelled-requires : tie.Need-labelled-requires Inv-loop μ-loop
+labelled-requires c κs = (begin (c .before) .pre .grouped, last-range (c .before))
+
+fill-ends-requires : tie.Need-fill-ends-requires Inv-loop μ-loop
+fill-ends-requires c κs =
+    let branch = c .before .before .before in
+    let pre = begin branch .pre in
+    ends-fillable (pre .grouped) (pre .word) (last branch) refl (pre .quiet) (c .before .labelled .ensures) (pre .sources .long)
+
+loop-holds : tie.Need-loop-holds Inv-loop μ-loop
+loop-holds c =
+    let filled = c .before .before in
+    let part = filled .before .before in
+    let branch = part .before .before in
+    let pre = begin branch .pre in
+    let turning = turning-last (pre .grouped) (pre .word) (last branch) refl (pre .quiet) in
+    (turning (part .labelled .ensures) (omega (arith, some branch)) (filled .fill-ends .ensures), refl)
+
+-- ---- one label more
+
+sub-starts : tie.Need-sub-starts Inv-loop μ-loop
+sub-starts c = omega (arith, c .before .loop .inv .0 .inside)
+
+sub-starts-2 : tie.Need-sub-starts-2 Inv-loop μ-loop
+sub-starts-2 c = omega (arith, c .before .loop .inv .0 .inside)
+
+mul-starts : tie.Need-mul-starts Inv-loop μ-loop
+mul-starts c = omega (arith, start (c .before) .pre .word .short)
+
+add-starts : tie.Need-add-starts Inv-loop μ-loop
+add-starts c = omega (arith, start (c .before) .pre .word .short)
+
+add-starts-2 : tie.Need-add-starts-2 Inv-loop μ-loop
+add-starts-2 c = omega (arith, start (c .before) .pre .word .short, range c)
+
+sub-starts-3 : tie.Need-sub-starts-3 Inv-loop μ-loop
+sub-starts-3 c = omega (arith, range c)
+
+sub-i-2 : tie.Need-sub-i-2 Inv-loop μ-loop
+sub-i-2 c = omega (arith, c .loop-test .taken)
+
+shared-slice-read-b : tie.Need-shared-slice-read-b Inv-loop μ-loop
+shared-slice-read-b c = front (c .before)
+
+cast-b : tie.Need-cast-b Inv-loop μ-loop
+cast-b c = omega (arith, front-range (c .before))
+
+labelled-requires-2 : tie.Need-labelled-requires-2 Inv-loop μ-loop
+labelled-requires-2 c κs = let turn = c .before in (start (turn .before) .pre .grouped, omega (arith, front-range turn, range turn))
+
+labelled-requires-3 : tie.Need-labelled-requires-3 Inv-loop μ-loop
+labelled-requires-3 c κs = let turn = c .before .before in (start (turn .before) .pre .grouped, omega (arith, front-range turn, range turn))
+
+prepend-requires : tie.Need-prepend-requires Inv-loop μ-loop
+prepend-requires c κs =
+    let behind = c .before .before in
+    let first = behind .before in
+    let turn = first .before .before in
+    let loop = turn .before in
+    let pre = start loop .pre in
+    turning-prependable (loop .loop .inv .0) (pre .grouped) (pre .word) (first .labelled2 .ensures) (behind .labelled3 .ensures) (front turn) refl (pre .sources) (since loop)
+    (omega (arith, loop .loop .inv .1, pre .room))
+
+sub-from-2 : tie.Need-sub-from-2 Inv-loop μ-loop
+sub-from-2 c = omega (arith, c .before .before .before .before .before .before .before .before .before .before .before .loop .inv .0 .half)
+
+loop-less : tie.Need-loop-less Inv-loop μ-loop
+loop-less c = omega (arith, c .before .before .before .before .before .before .before .before .before .before .loop-test .taken)
+
+loop-again : tie.Need-loop-again Inv-loop μ-loop
+loop-again c =
+    let done = c .before .before .before .before in
+    let first = done .before .before .before .before in
+    let turn = first .before .before in
+    let loop = turn .before in
+    let pre = start loop .pre in
+    let turning = turning-more (loop .loop .inv .0) (pre .grouped) (pre .word) (first .labelled2 .ensures) in
+    (turning (omega (arith, turn .loop-test .taken)) (done .prepend .ensures), omega (arith, loop .loop .inv .1, done .prepend .kept))
+
+same-length-2 : tie.Need-same-length-2 Inv-loop μ-loop
+same-length-2 c = c .before .loop .inv .0 .keeps .len ∙ since (c .before) .len
+
+same-length-3 : tie.Need-same-length-3 Inv-loop μ-loop
+same-length-3 c = c .before .loop .inv .1
+
+returns-2 : tie.Need-returns-2 Inv-loop μ-loop
+returns-2 c = turning-all (since (c .before)) (omega (arith, c .loop-test .left)) (c .before .loop .inv .0)
 
 pub fill-parent-spec : {M : Type 1} → statement M
 fill-parent-spec =
@@ -132,26 +184,32 @@ fill-parent-spec =
     (tie.spec
     Inv-loop
     μ-loop
-    (λ c. omega arith)
-    (λ c. omega arith)
-    clear-rows-requires
     fill-identity-requires
-    loop-holds
+    same-length
+    returns
     sub-i
-    shared-slice-read-label
-    cast-label
+    shared-slice-read-c
+    cast-c
+    mul-from
+    sub-from
+    labelled-requires
+    fill-ends-requires
+    loop-holds
     sub-starts
     sub-starts-2
     mul-starts
     add-starts
     add-starts-2
     sub-starts-3
-    sub-to
-    clear-rows-requires-2
-    cast-fill
-    fill-requires
+    sub-i-2
+    shared-slice-read-b
+    cast-b
+    labelled-requires-2
+    labelled-requires-3
+    prepend-requires
+    sub-from-2
     loop-less
     loop-again
-    clear-rows-requires-3
-    same-length
-    returns)
+    same-length-2
+    same-length-3
+    returns-2)
