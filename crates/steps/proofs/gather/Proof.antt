@@ -1,9 +1,8 @@
 -- `steps::gather` meets its contract: the first n of `live` are those of the first i edges that end in row `starts`.
 use Prim.Native.Nat.{_-_}
 use native.Mathlib.Omega.{arith}
-use lib.ListN.{length, getD}
-use Rattle.model.specs.Edges.{toOf}
-use Rattle.rows.proofs.Rows.{cell-lt}
+use lib.ListN.{length}
+use Rattle.rows.specs.Rows.{cell}
 use Rattle.steps.proofs.Gathering.{Gathering, gathering-none, gathering-more, gathering-all}
 use Rattle.steps.proofs.gather.Statement.{statement}
 use Rattle.steps.proofs.gather.Tie as tie
@@ -29,13 +28,11 @@ cast-bit : tie.Need-cast-bit Inv-loop μ-loop
 cast-bit c = omega (arith, c .shared-slice-known3 .given (c .before .before .loop .i))
 
 bit-requires : tie.Need-bit-requires Inv-loop μ-loop
-bit-requires c κs = (c .before .before .before .before .before .before .pre .has, omega arith)
+bit-requires c κs = omega (arith, c .before .before .before .before .before .before .pre .has)
 
 add-n : tie.Need-add-n Inv-loop μ-loop
-add-n c =
-    let loop = c .before .before .before in
-    let args = loop .before .before .before .before .args in
-    omega (arith, loop .loop .inv .fits, c .bit .ensures, cell-lt (args .w .now) (args .starts) (toOf (getD (args .edges .now) (loop .loop .i) 0)))
+unfolding cell
+add-n c = omega (arith, c .before .before .before .loop .inv .fits, c .bit .ensures)
 
 loop-again : tie.Need-loop-again Inv-loop μ-loop
 loop-again c =
