@@ -39,7 +39,7 @@ fn print(name: &str, unit: &str, times: [Vec<f64>; 2]) {
 }
 
 /// Memory with half as many slots again as the edges have entries.
-fn lent(longest: u32, edges: &[u32]) -> Lent {
+fn sized(longest: u32, edges: &[u32]) -> Lent {
     let mut lent = Lent::new(longest, edges, MOST);
     assert_eq!((lent.change(rlc_remove, edges[0]), lent.change(rlc_insert, edges[0])), (0, 0));
     let entries = lent.entries();
@@ -83,17 +83,17 @@ fn queries(name: &str, lent: &mut Lent, turns: usize) {
 }
 
 fn main() {
-    for layout in layouts::all() {
+    let layouts = layouts::all();
+    for layout in &layouts {
         for (longest, turns) in [(1, 400), (2, 200), (3, 60), (4, 24)] {
             let name = format!("{} k {longest}", layout.name);
-            let mut lent = lent(longest, &layout.edges);
+            let mut lent = sized(longest, &layout.edges);
             lays(&name, &mut lent, turns);
             queries(&name, &mut lent, 60);
         }
     }
-    let sparse = &layouts::all()[0].edges;
-    for part in [8, 4, 2, 1] {
-        let edges: Vec<u32> = sparse.iter().step_by(part).copied().collect();
-        lays(&format!("{} of sparse k 4", edges.len()), &mut lent(4, &edges), 24);
+    for step in [8, 4, 2, 1] {
+        let edges: Vec<u32> = layouts[0].edges.iter().step_by(step).copied().collect();
+        lays(&format!("{} of {} k 4", edges.len(), layouts[0].name), &mut sized(4, &edges), 24);
     }
 }

@@ -8,7 +8,7 @@ ghost use lib.ListN.{length, replicate};
 ghost use Rattle.model.specs.Limits.{mostLabel};
 ghost use Rattle.calls.specs.Call.{lent};
 ghost use Rattle.calls.specs.Query.{queryCall};
-ghost use Rattle.sort.specs.Order.{Distinct, ThirtyThreeBits, Sorts};
+ghost use Rattle.sort.specs.Order.{Distinct, Sortable, Sorts};
 ghost use Rattle.order.specs.Counting.{Countable, Counts};
 ghost use Rattle.build.specs.Build.{Buildable};
 ghost use Rattle.bench_c.specs.Bench.{BuildsNumber, QueriesNumber};
@@ -83,7 +83,7 @@ pub extern "C" fn bench_query(
 // The sort, as sort::sort.
 #[no_mangle]
 pub extern "C" fn bench_sort(xs: &mut [u64], buffer: &mut [u64])
-    requires { ⌜ (length (now xs) ≡ length (now buffer)) × (Distinct (now xs) × ThirtyThreeBits (now xs)) ⌝ }
+    requires { ⌜ (length (now xs) ≡ length (now buffer)) × (Distinct (now xs) × Sortable (now xs)) ⌝ }
     ensures { λ _. ⌜ Sorts (now (xs .entry)) (now (xs .exit)) ⌝ }
 {
     sort::sort(xs, buffer);

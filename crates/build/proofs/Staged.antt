@@ -30,9 +30,17 @@ module _ {vertices longest : ℕ} {edges order w : List ℕ} {room : ℕ} (s : B
   abbrev renumbered : List ℕ
   renumbered = take (length edges) result
 
+  -- the entries of the renumbered graph
+  abbrev Entry : ℕ → Type 0
+  Entry = IsEntry (record { vertices = vertices; longest = longest; edges = renumbered }) (upTo vertices)
+
+  abbrev Kept : ℕ → Type 0
+  Kept = InRows savedRows rootRow
+
   module _ {w₁ w₂ : List ℕ} (c : Clears w w₁ stepRows (mostVertices + mostVertices)) (r : Becomes w₁ w₂ rootRow (λ k. k < mostVertices)) where
     -- with any bound on the patterns' length
-    pub node-stageable : (live : List ℕ) → mostEdges ≤ length live → {k : ℕ} → 1 ≤ k → k ≤ mostLongest → NodeStageable renumbered slots blank w₂ 0 rootRow live k room 0
+    pub node-stageable : (live : List ℕ) → mostEdges ≤ length live → {k : ℕ} → 1 ≤ k → k ≤ mostLongest
+        → NodeStageable renumbered slots blank w₂ 0 rootRow live k room 0
     node-stageable live fits more most =
         record {
           grouped = q .grouped;
@@ -52,13 +60,16 @@ module _ {vertices longest : ℕ} {edges order w : List ℕ} {room : ℕ} (s : B
 
     pub graph-stages : {w₃ : List ℕ} {n : ℕ} → NodeStages w₂ 0 (Beyond longest (PatternEntry renumbered) (wordOf blank 0)) room 0 w₃ n
         → GraphStages vertices longest edges order w room w₃ n
-    graph-stages {w₃} {n} v = record { edges′ = renumbered; renumbers = q .renumbers; stages = stages-since rooted (c .keeps) (λ k x e. omega (arith, x .least, e .most)) (λ k l e. omega (arith, e .most)) }
+    graph-stages {w₃} {n} v = record { edges′ = renumbered; renumbers = q .renumbers; stages = cleared }
       where
-        same : (e : ℕ) → IsEntry (record { vertices = vertices; longest = longest; edges = renumbered }) (upTo vertices) e ↔ Beyond longest (PatternEntry renumbered) [] e
+        same : (e : ℕ) → Entry e ↔ Beyond longest (PatternEntry renumbered) [] e
         same = entries-beyond vertices longest renumbered (s .bounds .vertices-most) (q .valid)
 
-        whole : Stages w₂ (InRows savedRows rootRow) (IsEntry (record { vertices = vertices; longest = longest; edges = renumbered }) (upTo vertices)) room 0 w₃ n
+        whole : Stages w₂ Kept Entry room 0 w₃ n
         whole = stages-within (stages-as (v .stages) (λ e. Iff·symm (same e))) (λ k x. record { least = x .least; most = omega (arith, x .most) })
 
-        rooted : Stages w₁ (InRows savedRows rootRow) (IsEntry (record { vertices = vertices; longest = longest; edges = renumbered }) (upTo vertices)) room 0 w₃ n
+        rooted : Stages w₁ Kept Entry room 0 w₃ n
         rooted = stages-since whole (r .keeps) (λ k x e. omega (arith, x .most)) (λ k l e. omega arith)
+
+        cleared : Stages w Kept Entry room 0 w₃ n
+        cleared = stages-since rooted (c .keeps) (λ k x e. omega (arith, x .least, e .most)) (λ k l e. omega (arith, e .most))

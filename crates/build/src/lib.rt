@@ -8,8 +8,8 @@ ghost use lib.ListN.{length};
 ghost use Rattle.build.specs.Build.{Buildable, Builds};
 ghost use Rattle.build.specs.Staging.{GraphStages};
 
-// The step rows and the parent's.
-const STEP_ROWS: usize = MOST_VERTICES + MOST_VERTICES;
+// How many rows there are of both kinds, the step rows and the parent's behind them.
+const BOTH: usize = MOST_VERTICES + MOST_VERTICES;
 
 // How many entries the index has, or that they do not fit.
 pub enum Built {
@@ -33,7 +33,7 @@ fn stage(
     let mut renumbered = [0u32; MOST_EDGES];
     let slots = renumber::renumber(vertices, edges, order, &mut renumbered);
     let mut live = [0u32; MOST_EDGES];
-    steps::clear_rows(w, rows::STEPS, STEP_ROWS);
+    steps::clear_rows(w, rows::STEPS, BOTH);
     rows::fill(w, rows::ROOT);
     suffixes::node(
         &renumbered[..m],

@@ -7,12 +7,12 @@ use native.Mathlib.Omega.{arith}
 use native.Mathlib.Decide.{ℕ-discrete, decLt}
 use Rattle.model.specs.Limits.{mostVertices}
 use Rattle.model.specs.Build.Hubs.{Plus, one}
+use Rattle.model.proofs.Plus.{plus-then, first-step, plus-onward, plus-in, plus-flat, plus-map}
 use Rattle.rows.specs.Region.{openRow, restRow}
 use Rattle.rows.specs.Rows.{On, KeepsRows, NextVertex, StepsTo, Domain}
 use Rattle.rows.proofs.Rows.{keeps-none, keeps-as, keeps-then, keeps-cell, keeps-domain}
 use Rattle.closure.specs.Closing.{Closable, Closes}
 use Rattle.closure.specs.Turns.{WholeRow, ClosesRow}
-use Rattle.closure.proofs.Plus.{plus-then, plus-from, plus-onward, plus-in, plus-flat, plus-map}
 use Rattle.closure.proofs.Looked.{beside-step}
 
 -- from w to v the rows before a have been closed
@@ -32,7 +32,7 @@ whole-all {w} {a} f = plus-in (StepsTo w a) (f .through) (λ m s. s)
 module _ {w v : List ℕ} {a : ℕ} (m : Closing w v a) where
   pub closing-domain : {d : ℕ} → Domain w d → Domain v d
   closing-domain {d} c =
-      keeps-domain (m .keeps) (omega (arith, c .least), λ e. omega (arith, c .most)) (λ x b s. plus-from (On w d) (c .starts) (m .only x b s)) c
+      keeps-domain (m .keeps) (omega (arith, c .least), λ e. omega (arith, c .most)) (λ x b s. c .starts x _ (first-step (m .only x b s) .1)) c
 
   -- a vertex with two steps from it has two first, so it is in row `rest`; the row of any other is whole as it is
   rests : {d x y b : ℕ} → Closable w d → StepsTo v x y → StepsTo v y b → On v restRow x
@@ -84,6 +84,6 @@ module _ {w v : List ℕ} {a : ℕ} (m : Closing w v a) where
         keeps = m .keeps;
         is = λ x b. (
           m .only x b,
-          λ q. whole-all (m .whole x (omega (arith, plus-from (λ x. x < mostVertices) (λ x b s. s .from) q))) (plus-map (m .old) q),
+          λ q. whole-all (m .whole x (omega (arith, first-step q .1 .from))) (plus-map (m .old) q),
         );
       }

@@ -1,4 +1,3 @@
-pub mod Plus
 pub mod Sums
 pub mod Taking
 pub mod Looked

@@ -7,11 +7,11 @@ use native.Mathlib.Omega.{arith}
 use native.Mathlib.Decide.{ℕ-discrete}
 use Rattle.model.specs.Limits.{mostVertices}
 use Rattle.model.specs.Build.Hubs.{Plus, one}
+use Rattle.model.proofs.Plus.{plus-then, plus-in, plus-as}
 use Rattle.rows.specs.Region.{openRow}
 use Rattle.rows.specs.Rows.{cell, On, KeepsRows, Becomes, FirstInBoth, StepsTo}
 use Rattle.rows.proofs.Rows.{cell-lt, cell-cases, keeps-none, keeps-then, keeps-step, keeps-steps}
 use Rattle.closure.specs.Turns.{WholeRow, RowClosable, Beside, ClosesRow, TakesIn}
-use Rattle.closure.proofs.Plus.{plus-then, plus-in, plus-as}
 use Rattle.closure.proofs.Sums.{sum, sum-falls}
 use Rattle.closure.proofs.Taking.{beside-open}
 

@@ -34,7 +34,7 @@ fn close_row(w: &mut [u64], domain: usize, a: usize)
 }
 
 // Closes the step rows. The vertices that step anywhere are in row `domain`, and those that a second step follows in row REST: the rows of
-// the others are closed as they are, and lent to these.
+// the others are closed as they are, and these take them in.
 pub fn close(w: &mut [u64], domain: usize)
     requires { ⌜ Closable (now w) domain ⌝ }
     ensures { λ _. ⌜ Closes (now (w .entry)) (now (w .exit)) ⌝ }

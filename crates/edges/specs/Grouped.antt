@@ -19,4 +19,3 @@ pub record Grouped (edges slots : List ℕ) : Type 0 where
   pub only : (c x : ℕ) → c < mostLabel → x ∈ section edges slots c → labelOf x ≡ suc c
   pub all : (c x : ℕ) → c < mostLabel → x ∈ edges → labelOf x ≡ suc c → x ∈ section edges slots c
   pub from-small : (x : ℕ) → x ∈ edges → fromOf x < mostVertices
-  pub labelled : (x : ℕ) → x ∈ edges → (1 ≤ labelOf x) × (labelOf x ≤ mostLabel)

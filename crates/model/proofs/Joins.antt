@@ -10,6 +10,7 @@ use Rattle.model.specs.Entries.{entryOf}
 use Rattle.model.specs.Computed.Query.{sideOf, ownerOf, hubOf}
 use Rattle.model.specs.Build.Hubs.{EntryBy, Plus, one, more, joining, Direct, Joined, Onward}
 use Rattle.model.proofs.Renumber.{entry-fields}
+use Rattle.model.proofs.Plus.{plus-onward}
 
 -- ---- which of the two owns the entry
 
@@ -54,11 +55,21 @@ module _ {R : ℕ → ℕ → Type 0} {c e : ℕ} where
   pub entry-joined : EntryBy R c e → (s : ℕ) × Joined R c s e
   entry-joined (EntryBy.out p) = (
     p .owner,
-    record { end = p .hub; related = p .related; alone = λ v a b i j. p .alone v b j i; is = p .is ∙ sym (joining-out c (p .owner) (p .hub) (omega (arith, p .late))) },
+    record {
+      end = p .hub;
+      related = p .related;
+      alone = λ v a b i j. p .alone v b j i;
+      is = p .is ∙ sym (joining-out c (p .owner) (p .hub) (omega (arith, p .late)));
+    },
   )
   entry-joined (EntryBy.into p) = (
     p .hub,
-    record { end = p .owner; related = p .related; alone = λ v a b i j. p .alone v a i j; is = p .is ∙ sym (joining-in c (p .hub) (p .owner) (omega (arith, p .late))) },
+    record {
+      end = p .owner;
+      related = p .related;
+      alone = λ v a b i j. p .alone v a i j;
+      is = p .is ∙ sym (joining-in c (p .hub) (p .owner) (omega (arith, p .late)));
+    },
   )
 
   pub joined-entry : {s : ℕ} → Joined R c s e → EntryBy R c e
@@ -87,24 +98,13 @@ joined-as f j =
 
 -- ---- a start that no second step follows: every walk from it is one step, and each of its steps has its entry
 
-first-step : {R : ℕ → ℕ → Type 0} {a b : ℕ} → Plus R a b → (m : ℕ) × R a m
-first-step (one r) = (_, r)
-first-step (more r _) = (_, r)
-
 module _ {R : ℕ → ℕ → Type 0} {s : ℕ} (last : Onward R s → ⊥) where
   pub one-step : {t : ℕ} → Plus R s t → R s t
   one-step (one r) = r
-  one-step (more r (one q)) = absurd (last (record { middle = _; end = _; first = r; second = q }))
-  one-step (more r (more q _)) = absurd (last (record { middle = _; end = _; first = r; second = q }))
+  one-step (more r q) = absurd (last (plus-onward (one r) q))
 
   pub direct-joined : {c e : ℕ} → Direct R c s e → Joined (Plus R) c s e
-  direct-joined d =
-      record {
-        end = d .end;
-        related = one (d .related);
-        alone = λ v _ _ i k. last (record { middle = v; end = _; first = one-step i; second = first-step k .1 });
-        is = d .is;
-      }
+  direct-joined d = record { end = d .end; related = one (d .related); alone = λ v _ _ i k. last (plus-onward i k); is = d .is }
 
   pub joined-direct : {c e : ℕ} → Joined (Plus R) c s e → Direct R c s e
   joined-direct j = record { end = j .end; related = one-step (j .related); is = j .is }

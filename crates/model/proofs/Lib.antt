@@ -17,6 +17,7 @@ pub mod Ranks
 pub mod Hubs
 pub mod Suffixes
 pub mod Renumber
+pub mod Plus
 pub mod Joins
 pub mod Counting
 pub mod Memory

@@ -14,7 +14,7 @@ use Rattle.model.proofs.Lists.{getD-in, getD-map}
 use Rattle.model.proofs.Ranks.{rank-at, names-length}
 use Rattle.model.proofs.Renumber.{entry-fields}
 use Rattle.memory.proofs.Mix.{Mixed, front-none, front-turn}
-use Rattle.sort.specs.Order.{narrowBits, Distinct, ThirtyThreeBits}
+use Rattle.sort.specs.Order.{narrowBits, Distinct, Sortable}
 use Rattle.output.specs.Output.{Translatable}
 
 -- ---- a loop that puts f x for each x
@@ -28,7 +28,7 @@ map-turn f l {i = i} m h e = front-turn m (omega (arith, m .same, m .size, lengt
 
 -- ---- what stays true
 
-pub map-distinct : {l : List ℕ} (f : ℕ → ℕ) → Distinct l → ((x y : ℕ) → x ∈ l → y ∈ l → f x ≡ f y → x ≡ y) → Distinct (map f l)
+map-distinct : {l : List ℕ} (f : ℕ → ℕ) → Distinct l → ((x y : ℕ) → x ∈ l → y ∈ l → f x ≡ f y → x ≡ y) → Distinct (map f l)
 map-distinct {l} f d once = record {
   once = λ i j h k e.
       let b : j < length l = omega (arith, length-map l f) in
@@ -48,14 +48,14 @@ module _ {order staged : List ℕ} (t : Translatable order staged) where
     hub-small : getD order (hubOf x) 0 < mostVertices
     hub-small = t .order-small _ (getD-in order (hubOf x) (t .hubs x m))
 
-    pub translate-small : translate order x < 2 ^ narrowBits
+    translate-small : translate order x < 2 ^ narrowBits
     translate-small = omega (arith, t .sides x m, owner-small, hub-small)
 
     fields : (sideOf (translate order x) ≡ sideOf x) × (ownerOf (translate order x) ≡ getD order (ownerOf x) 0)
         × (hubOf (translate order x) ≡ getD order (hubOf x) 0) × (codeOf (translate order x) ≡ codeOf x)
     fields = entry-fields (sideOf x) _ _ (codeOf x) owner-small hub-small (omega arith)
 
-  pub translate-narrow : ThirtyThreeBits (map (translate order) staged)
+  pub translate-narrow : Sortable (map (translate order) staged)
   translate-narrow = record { small = λ y m. let (x, k, e) = Memᴰ·of-map (translate order) staged m in rw e at (translate-small x k) }
 
   -- an order that names each vertex once tells the ranks apart

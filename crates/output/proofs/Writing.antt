@@ -20,7 +20,7 @@ module _ (put index : List ℕ) (n : ℕ) (size : length put ≡ n) (fits : n �
   pub front-is : take n filled-front ≡ put
   front-is = take-at put (drop n index) n size
 
-  pub front-long : length filled-front ≡ length index
+  front-long : length filled-front ≡ length index
   front-long = length-front index put n (size ∙ sym (length-take-le n index fits))
 
   module _ {sorted : List ℕ} (s : Sorts (take n filled-front) sorted) where

@@ -7,7 +7,7 @@ use Rattle.model.specs.Limits.{mostVertices}
 use Rattle.model.specs.Lists.{_∈_, filled}
 use Rattle.model.specs.Computed.Query.{sideOf, ownerOf, hubOf}
 use Rattle.model.specs.Build.Renumber.{translate}
-use Rattle.sort.specs.Order.{Distinct, ThirtyThreeBits, Sorts}
+use Rattle.sort.specs.Order.{Distinct, Sortable, Sorts}
 
 -- entries whose owners and hubs are ranks of an order in memory
 pub record Translatable (order staged : List ℕ) : Type 0 where
@@ -16,12 +16,12 @@ pub record Translatable (order staged : List ℕ) : Type 0 where
   pub owners : (x : ℕ) → x ∈ staged → ownerOf x < length order
   pub hubs : (x : ℕ) → x ∈ staged → hubOf x < length order
 
--- there are slots for them, and put back they differ
+-- there are slots for them, and put back they differ and are of so many bits as the sort takes, 33
 pub record IndexWritable (order staged index : List ℕ) : Type 0 where
   pub fits : length staged ≤ length index
   pub translatable : Translatable order staged
   pub distinct : Distinct (map (translate order) staged)
-  pub narrow : ThirtyThreeBits (map (translate order) staged)
+  pub narrow : Sortable (map (translate order) staged)
 
 -- index memory is the staged numbers in rising order, and zeros behind them
 pub record WritesIndex (staged index index′ : List ℕ) : Type 0 where

@@ -24,7 +24,7 @@ fn put_one(order: &[u8], x: u64) -> u64
     x / SIDE_UNIT * SIDE_UNIT + owner * OWNER_UNIT + hub * HUB_UNIT + x % HUB_UNIT
 }
 
-// Puts the staged entries to `to`, with owner and hub put back: vertex order[r] for rank r.
+// Writes the staged entries into `to`, with owner and hub put back: vertex order[r] for rank r.
 fn put_back(order: &[u8], staged: &[u64], to: &mut [u64])
     requires { ⌜ Translatable (now order) (now staged) × (length (now staged) ≡ length (now to)) ⌝ }
     ensures { λ _. ⌜ now (to .exit) ≡ map (translate (now (order .entry))) (now (staged .entry)) ⌝ }

@@ -2,15 +2,15 @@
 use mathlib.Core.Path.{_≡_, sym, _∙_}
 use mathlib.Core.List.{List}
 use mathlib.Core.Logic.{_↔_, Iff·symm}
-use Prim.Native.Nat.{ℕ, _+_, _<_}
+use Prim.Native.Nat.{ℕ, _<_}
 use native.Mathlib.Nat.{zero-add}
 use native.Mathlib.Omega.{arith}
 use Rattle.model.specs.Limits.{mostVertices}
 use Rattle.model.proofs.Hubs.{entry-by-as}
+use Rattle.model.proofs.Plus.{plus-as}
 use Rattle.rows.specs.Region.{stepRows, parentRows, openRow}
 use Rattle.rows.specs.Rows.{cell, Row, InRows, StepsTo}
 use Rattle.rows.proofs.Rows.{keeps-cell, keeps-long}
-use Rattle.closure.proofs.Plus.{plus-as}
 use Rattle.staging.specs.Stage.{Stages}
 use Rattle.staging.specs.Single.{SinglesStageable}
 use Rattle.staging.proofs.Adding.{stages-as, stages-kept, stages-since}
@@ -58,9 +58,7 @@ module _ {edges w : List ℕ} {starts code room cnt : ℕ} (p : PatternStageable
           };
           small = p .outgoing .small;
           listed = λ s h o. let v = p .sources .only s h (sym (starts-kept s h) ∙ o) in (v .edge, (v .listed, v .from));
-          code-small = p .code-small;
-          count = p .count;
-          room = omega (arith, p .there, f .keeps .len);
+          space = record { code-small = p .code-small; count = p .count; there = omega (arith, p .there, f .keeps .len) };
         }
 
     module _ {w₂ : List ℕ} {r : ℕ} (s : StepsStaged w₁ code room cnt w₂ r) where
@@ -70,7 +68,7 @@ module _ {edges w : List ℕ} {starts code room cnt : ℕ} (p : PatternStageable
             outgoing = p .outgoing;
             long = omega (arith, p .there, f .keeps .len, s .stages .keeps .len);
             base-rows = omega arith;
-            sources = λ a t h k o. let (_, old) = s .old a t (record { from = h; to = k; on = rw (zero-add a) at o }) in start old;
+            sources = λ a t h k o. let (_, step) = s .starts a t (record { from = h; to = k; on = rw (zero-add a) at o }) in start step;
           }
 
       pub pattern-stages : {w₃ : List ℕ} → Clears w₂ w₃ stepRows mostVertices → PatternStages w (LedEntry edges w code) room cnt w₃ r

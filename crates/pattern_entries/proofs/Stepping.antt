@@ -5,13 +5,13 @@ use mathlib.Core.Logic.{_⊎_, inl, inr, ⊎-elim, _↔_, Iff·trans, Iff·symm}
 use Prim.Native.Nat.{ℕ, _≤_, _<_}
 use native.Mathlib.Omega.{arith}
 use Rattle.model.specs.Limits.{mostVertices}
-use Rattle.model.specs.Build.Hubs.{EntryBy, Plus, Onward, Joined}
+use Rattle.model.specs.Build.Hubs.{EntryBy, Plus, Onward}
+use Rattle.model.proofs.Plus.{plus-then, first-step, plus-as}
 use Rattle.model.proofs.Joins.{joining-same, joined-entry, entry-joined, joined-as, direct-joined, joined-direct}
 use Rattle.rows.specs.Region.{parentRows, openRow, restRow}
-use Rattle.rows.specs.Rows.{On, InRows, StepsTo}
+use Rattle.rows.specs.Rows.{cell, On, InRows, StepsTo}
 use Rattle.rows.proofs.Rows.{on-dec, keeps-cell, keeps-steps, keeps-domain}
 use Rattle.closure.specs.Closing.{Closable, Closes}
-use Rattle.closure.proofs.Plus.{plus-then, plus-from, plus-as}
 use Rattle.staging.specs.Stage.{Stages, Unpicked, Stageable, RestEntry}
 use Rattle.staging.specs.Single.{Single, LastStep, SinglesStageable, StagesSingles}
 use Rattle.staging.proofs.Adding.{stages-as, stages-over, stages-then, stages-since, stages-within}
@@ -41,7 +41,7 @@ module _ {edges w : List ℕ} {d code room cnt : ℕ} (p : SinglesStageable edge
 
   -- ---- they do not fit
   pub filled-over : room < n → StepsStaged w code room cnt w₁ n
-  filled-over h = record { stages = stages-over singles h of-single; old = λ a b t. (b, same a b .0 t) }
+  filled-over h = record { stages = stages-over singles h of-single; starts = λ a b t. (b, same a b .0 t) }
 
   -- ---- the others are closed
   module _ (fits : n ≤ room) where
@@ -65,20 +65,24 @@ module _ {edges w : List ℕ} {d code room cnt : ℕ} (p : SinglesStageable edge
       stageable =
           record {
             transits = record { on = λ x y z a b. led x z .1 (plus-then (led x y .0 a) (led y z .0 b)) };
-            code-small = p .code-small;
-            count = fits;
-            room = omega (arith, p .room, s .stages .keeps .len, c .keeps .len);
+            space = record {
+              code-small = p .space .code-small;
+              count = fits;
+              there = omega (arith, p .space .there, s .stages .keeps .len, c .keeps .len);
+            };
           }
 
-      -- a vertex is in row `rest` exactly if it is in row d and is not single
-      left : {x : ℕ} → x < mostVertices → On w₂ restRow x → (On w d x × (Single w d x → ⊥))
-      left h o = s .rest fits .only _ h (sym (keeps-cell (c .keeps) restRow (omega arith, λ e. omega arith) _ h) ∙ o)
+      rest-kept : {x : ℕ} → x < mostVertices → cell w₂ restRow x ≡ cell w₁ restRow x
+      rest-kept = keeps-cell (c .keeps) restRow (omega arith, λ e. omega arith) _
+
+      -- the vertices in row `rest` are not single, and those that step and are not in it are
+      left : {x : ℕ} → x < mostVertices → On w₂ restRow x → Single w d x → ⊥
+      left h o = s .rest fits .only _ h (sym (rest-kept h) ∙ o) .1
 
       gone : {x t : ℕ} → StepsTo w x t → (On w₂ restRow x → ⊥) → Single w d x
-      gone a none =
+      gone a out =
           record {
-            none = λ t b o.
-                none (keeps-cell (c .keeps) restRow (omega arith, λ e. omega arith) _ (a .from) ∙ s .rest fits .all _ (a .from) (p .domain .starts _ _ a, λ e. e .none t b o));
+            none = λ t b o. out (rest-kept (a .from) ∙ s .rest fits .all _ (a .from) (p .domain .starts _ _ a, λ e. e .none t b o));
           }
 
       there : (e : ℕ) → (LastStep w d code e ⊎ RestEntry w₂ code e) → Wanted e
@@ -87,7 +91,7 @@ module _ {edges w : List ℕ} {d code room cnt : ℕ} (p : SinglesStageable edge
       back : (e : ℕ) → Wanted e → LastStep w d code e ⊎ RestEntry w₂ code e
       back e x =
           let (a, j) = entry-joined x in
-          let (m, first) = plus-from (λ v. (u : ℕ) × StepsTo w v u) (λ v u q. (u, q)) (j .related) in
+          let (m, first) = first-step (j .related) in
           elim (on-dec w₂ restRow a) [
             | yes o ↦ inr (record { start = a; on = o; joined = joined-as (λ u v. Iff·symm (led u v)) j })
             | no o ↦ let single = gone first o in inl (record { start = a; single = single; direct = joined-direct (lone single) j })
@@ -97,11 +101,13 @@ module _ {edges w : List ℕ} {d code room cnt : ℕ} (p : SinglesStageable edge
       apart e l r =
           let a = l .direct in
           let b = r .joined in
-          let (q, _) = joining-same code (l .start) (a .end) (r .start) (b .end) (p .code-small) (a .related .from) (a .related .to) (b .related .from) (b .related .to) (sym (a .is) ∙ b .is) in
-          left (b .related .from) (r .on) .1 (rw q at (l .single))
+          let f = a .related in
+          let g = b .related in
+          let (q, _) = joining-same _ _ _ _ _ (p .space .code-small) (f .from) (f .to) (g .from) (g .to) (sym (a .is) ∙ b .is) in
+          left (g .from) (r .on) (rw q at (l .single))
 
       pub filled-all : {w₃ : List ℕ} {r : ℕ} → Stages w₂ Unpicked (RestEntry w₂ code) room n w₃ r → StepsStaged w code room cnt w₃ r
-      filled-all {w₃} {r} t = record { stages = stages-as (stages-then singles fits apart rest) (λ e. (there e, back e)); old = old }
+      filled-all {w₃} {r} t = record { stages = stages-as (stages-then singles fits apart rest) (λ e. (there e, back e)); starts = starts }
         where
           rest : Stages w₁ Kept (RestEntry w₂ code) room n w₃ r
           rest = stages-since
@@ -110,6 +116,5 @@ module _ {edges w : List ℕ} {d code room cnt : ℕ} (p : SinglesStageable edge
               (λ q x. (omega (arith, x .least), λ i. omega (arith, x .most)))
               (λ q l. (omega arith, λ i. omega arith))
 
-          old : (a b : ℕ) → StepsTo w₃ a b → (m : ℕ) × StepsTo w a m
-          old a b x =
-              plus-from (λ v. (u : ℕ) × StepsTo w v u) (λ v u q. (u, q)) (led a b .0 (keeps-steps (t .keeps) (λ v l. (omega arith, λ i. omega arith)) a b .0 x))
+          starts : (a b : ℕ) → StepsTo w₃ a b → (m : ℕ) × StepsTo w a m
+          starts a b x = first-step (led a b .0 (keeps-steps (t .keeps) (λ v l. (omega arith, λ i. omega arith)) a b .0 x))

@@ -40,4 +40,4 @@ LedEntry edges w code = EntryBy (Plus (Led edges w)) code
 -- the entries by the steps are staged, one step or more; no other vertices step anywhere then
 pub record StepsStaged (w : List ℕ) (code room cnt : ℕ) (w′ : List ℕ) (r : ℕ) : Type 0 where
   pub stages : Stages w (InRows parentRows openRow) (EntryBy (Plus (StepsTo w)) code) room cnt w′ r
-  pub old : (a b : ℕ) → StepsTo w′ a b → (m : ℕ) × StepsTo w a m
+  pub starts : (a b : ℕ) → StepsTo w′ a b → (m : ℕ) × StepsTo w a m

@@ -1,9 +1,9 @@
-// The entries of one pattern: its step rows filled; staged from where a start's walks are one step; closed and staged from for the others;
-// and emptied.
+// The entries of one pattern: its step rows are filled; starts whose walks are one step are staged from them as they are, the others once the
+// rows are closed; then the rows are emptied.
 ghost use Rattle.staging.specs.Single.{SinglesStageable};
 ghost use Rattle.pattern_entries.specs.Pattern.{PatternStageable, PatternStages, LedEntry, StepsStaged};
 
-// Stages the entries by the step rows behind the first cnt. An edge of the list starts at every vertex that steps anywhere. Returns how many
+// Stages, behind the first cnt, the entries by the step rows. An edge of the list starts at every vertex that steps anywhere. Returns how many
 // are staged then, or room + 1 if there are more than room.
 fn stage_filled(
     edges: &[u32],
@@ -24,7 +24,7 @@ fn stage_filled(
     staging::stage(w, code, room, n)
 }
 
-// Stages the entries of the pattern that is a label and the parent's word, behind the first cnt. The edges are those of the label that end
+// Stages, behind the first cnt, the entries of the pattern that is a label and the parent's word. The edges are those of the label that end
 // where the word can be spelled. Returns as stage_filled does.
 pub fn stage(
     edges: &[u32],

@@ -46,7 +46,9 @@ module _ {w : List ℕ} {r : ℕ} (h : Has w r) (v : ℕ → ℕ) where
           len = length-set cur _ _ ∙ m .keeps .len;
           same = λ k n. getD-set-other cur (r * rowNumbers + i) k _ 0 (λ e. n (omega arith)) ∙ m .keeps .same k n;
         };
-        done = λ k q. getD-set cur (r * rowNumbers + i) _ (r * rowNumbers + k) _ (omega (arith, m .keeps .len)) (λ e. ap v (omega arith)) (λ n. m .done k (omega arith));
+        done = λ k q. getD-set cur (r * rowNumbers + i) _ (r * rowNumbers + k) _ (omega (arith, m .keeps .len))
+            (λ e. ap v (omega arith))
+            (λ n. m .done k (omega arith));
       }
 
   stored-is : {P : ℕ → Type 0} → ((j : ℕ) → j < mostVertices → (bit (v (j / 64)) (j % 64) ≡ 1) ↔ P j)

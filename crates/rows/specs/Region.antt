@@ -33,12 +33,14 @@ rootRow = savedRows + mostEdges / rowNumbers
 abbrev pub childRows : ℕ
 childRows = rootRow + 1
 
--- single rows, each named by what uses it
+-- three single rows. The vertices whose rows have not been taken in yet
 abbrev pub openRow : ℕ
 openRow = childRows + mostLongest * mostLabel
 
+-- the starts that a second step may follow
 abbrev pub restRow : ℕ
 restRow = openRow + 1
 
+-- the ends of a start that are left
 abbrev pub pickedRow : ℕ
 pickedRow = restRow + 1

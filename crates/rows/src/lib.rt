@@ -11,7 +11,7 @@ ghost use Rattle.rows.specs.Rows.{cell, On, Has, Becomes, NextVertex, Fi
 ghost use Rattle.rows.specs.Four.{loaded, stored};
 
 // The bits of a number, and the numbers of a row.
-const BITS: usize = 64;
+pub const BITS: usize = 64;
 
 pub const ROW: usize = MOST_VERTICES / BITS;
 

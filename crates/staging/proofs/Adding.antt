@@ -121,7 +121,7 @@ module _ {w w′ : List ℕ} {k n : ℕ} {P : ℕ → Type 0} (s : (i : ℕ) →
 
 -- ---- from memory to memory
 
-pub stages-none : {w : List ℕ} {K P : ℕ → Type 0} {slots cnt : ℕ} → cnt ≤ slots → ((e : ℕ) → P e → ⊥) → Stages w K P slots cnt w cnt
+pub stages-none : {w : List ℕ} {K P : ℕ → Type 0} {room cnt : ℕ} → cnt ≤ room → ((e : ℕ) → P e → ⊥) → Stages w K P room cnt w cnt
 stages-none h n = record { keeps = keeps-none; old = λ i _. refl; done = λ _. adds-none n; over = λ l. absurd (omega arith) }
 
 -- the rows behind the last of work memory are the stage
@@ -131,17 +131,17 @@ staged-kept h f i = h .same (leastWork + i) (f ((leastWork + i) / rowNumbers) (o
 pub put-keeps : (w : List ℕ) (k e : ℕ) → KeepsRows w (set w (leastWork + k) e) (λ q. q < workRows)
 put-keeps w k e = record { len = length-set w _ _; same = λ i x. getD-set-other w (leastWork + k) i e 0 (λ q. omega arith) }
 
-module _ {w w′ : List ℕ} {K P : ℕ → Type 0} {slots cnt r : ℕ} (s : Stages w K P slots cnt w′ r) where
-  pub stages-as : {Q : ℕ → Type 0} → ((e : ℕ) → P e ↔ Q e) → Stages w K Q slots cnt w′ r
+module _ {w w′ : List ℕ} {K P : ℕ → Type 0} {room cnt r : ℕ} (s : Stages w K P room cnt w′ r) where
+  pub stages-as : {Q : ℕ → Type 0} → ((e : ℕ) → P e ↔ Q e) → Stages w K Q room cnt w′ r
   stages-as f = record { keeps = s .keeps; old = s .old; done = λ h. adds-as f (s .done h); over = λ h. over-as (λ e. f e .0) (s .over h) }
 
   -- more than fit
-  pub stages-over : {Q : ℕ → Type 0} → slots < r → ((e : ℕ) → P e → Q e) → Stages w K Q slots cnt w′ r
+  pub stages-over : {Q : ℕ → Type 0} → room < r → ((e : ℕ) → P e → Q e) → Stages w K Q room cnt w′ r
   stages-over l f = record { keeps = s .keeps; old = s .old; done = λ h. absurd (omega arith); over = λ h. over-as f (s .over h) }
 
   -- the second stretch is begun only if the first fitted
-  pub stages-then : {Q : ℕ → Type 0} {w″ : List ℕ} {r′ : ℕ} → r ≤ slots → ((e : ℕ) → P e → Q e → ⊥) → Stages w′ K Q slots r w″ r′
-      → Stages w K (λ e. P e ⊎ Q e) slots cnt w″ r′
+  pub stages-then : {Q : ℕ → Type 0} {w″ : List ℕ} {r′ : ℕ} → r ≤ room → ((e : ℕ) → P e → Q e → ⊥) → Stages w′ K Q room r w″ r′
+      → Stages w K (λ e. P e ⊎ Q e) room cnt w″ r′
   stages-then fits apart t =
       let a = s .done fits in
       record {
@@ -153,7 +153,7 @@ module _ {w w′ : List ℕ} {K P : ℕ → Type 0} {slots cnt r : ℕ} (s : Sta
 
   -- memory changes elsewhere, afterwards and before
   pub stages-kept : {w″ : List ℕ} {L : ℕ → Type 0} → KeepsRows w′ w″ L → ((q : ℕ) → K q → L q) → ((q : ℕ) → workRows ≤ q → L q)
-      → Stages w K P slots cnt w″ r
+      → Stages w K P room cnt w″ r
   stages-kept h f g =
       let same = staged-kept h g in
       record {
@@ -164,16 +164,16 @@ module _ {w w′ : List ℕ} {K P : ℕ → Type 0} {slots cnt r : ℕ} (s : Sta
       }
 
   pub stages-since : {v : List ℕ} {L : ℕ → Type 0} → KeepsRows v w L → ((q : ℕ) → K q → L q) → ((q : ℕ) → workRows ≤ q → L q)
-      → Stages v K P slots cnt w′ r
+      → Stages v K P room cnt w′ r
   stages-since h f g =
       record { keeps = keeps-then (keeps-as f h) (s .keeps); old = λ i l. s .old i l ∙ staged-kept h g i; done = s .done; over = s .over }
 
-  pub stages-within : {L : ℕ → Type 0} → ((q : ℕ) → L q → K q) → Stages w L P slots cnt w′ r
+  pub stages-within : {L : ℕ → Type 0} → ((q : ℕ) → L q → K q) → Stages w L P room cnt w′ r
   stages-within f = record { keeps = keeps-as f (s .keeps); old = s .old; done = s .done; over = s .over }
 
   -- one number more: every slot is taken, or it is staged
   module _ (e : ℕ) (new : P e → ⊥) where
-    pub stages-full : r ≡ slots → Stages w K (λ x. P x ⊎ (x ≡ e)) slots cnt w′ (slots + 1)
+    pub stages-full : r ≡ room → Stages w K (λ x. P x ⊎ (x ≡ e)) room cnt w′ (room + 1)
     stages-full q =
         record {
           keeps = s .keeps;
@@ -182,9 +182,9 @@ module _ {w w′ : List ℕ} {K P : ℕ → Type 0} {slots cnt r : ℕ} (s : Sta
           over = λ _. let a = s .done (omega arith) in over-now (rw q at a) e new;
         }
 
-    pub stages-put : r < slots → leastWork + slots ≤ length w′ → ((q : ℕ) → K q → q < workRows)
-        → Stages w K (λ x. P x ⊎ (x ≡ e)) slots cnt (set w′ (leastWork + r) e) (r + 1)
-    stages-put l room f =
+    pub stages-put : r < room → leastWork + room ≤ length w′ → ((q : ℕ) → K q → q < workRows)
+        → Stages w K (λ x. P x ⊎ (x ≡ e)) room cnt (set w′ (leastWork + r) e) (r + 1)
+    stages-put l there f =
         record {
           keeps = keeps-then (s .keeps) (keeps-as f (put-keeps w′ r e));
           old = λ i h. was i (omega (arith, a .more)) ∙ s .old i h;

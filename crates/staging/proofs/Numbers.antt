@@ -56,11 +56,11 @@ abbrev pub Taken : List ℕ → ℕ → ℕ → ℕ → ℕ → Type 0
 Taken w i x a b = StepsWithin w i a b × (bit x (b % 64) ≡ 1 → ⊥)
 
 -- the bits of x are steps from s, and the entries for the others are staged
-pub record Numbering (w : List ℕ) (s i code slots cnt : ℕ) (w′ : List ℕ) (n x : ℕ) : Type 0 where
+pub record Numbering (w : List ℕ) (s i code room cnt : ℕ) (w′ : List ℕ) (n x : ℕ) : Type 0 where
   pub wide : x < 2 ^ 64
-  pub fits : n ≤ slots
+  pub fits : n ≤ room
   pub left : (k : ℕ) → bit x k ≡ 1 → On w s (i * 64 + k)
-  pub stages : Stages w AllRows (Direct (Taken w i x) code s) slots cnt w′ n
+  pub stages : Stages w AllRows (Direct (Taken w i x) code s) room cnt w′ n
 
 module _ (w : List ℕ) (s i : ℕ) where
   -- the bits of number i
@@ -68,8 +68,8 @@ module _ (w : List ℕ) (s i : ℕ) where
   unfolding cell
   number-bit b e = rw e refl
 
-  pub numbering-none : {code slots cnt : ℕ} → cnt ≤ slots → getD w (s * rowNumbers + i) 0 < 2 ^ 64
-      → Numbering w s i code slots cnt w cnt (getD w (s * rowNumbers + i) 0)
+  pub numbering-none : {code room cnt : ℕ} → cnt ≤ room → getD w (s * rowNumbers + i) 0 < 2 ^ 64
+      → Numbering w s i code room cnt w cnt (getD w (s * rowNumbers + i) 0)
   numbering-none c h =
       record {
         wide = h;
@@ -81,7 +81,7 @@ module _ (w : List ℕ) (s i : ℕ) where
         stages = stages-none c (λ e d. let r = d .related in r .1 (sym (number-bit (d .end) (r .0 .1)) ∙ r .0 .0 .on));
       }
 
-module _ {w w′ : List ℕ} {s i code slots cnt n x : ℕ} (a : Numbering w s i code slots cnt w′ n x) where
+module _ {w w′ : List ℕ} {s i code room cnt n x : ℕ} (a : Numbering w s i code room cnt w′ n x) where
   module _ (hs : s < mostVertices) (hi : i < rowNumbers) (hc : code < hubUnit) (more : x ≡ 0 → ⊥) where
     abbrev z : ℕ
     z = trailingZeros 64 x
@@ -123,24 +123,24 @@ module _ {w w′ : List ℕ} {s i code slots cnt n x : ℕ} (a : Numbering w s i
       )
 
       -- every slot is taken, and there is one entry more
-      pub numbering-full : n ≡ slots → Stages w AllRows (Direct (StepsWithin w i) code s) slots cnt w′ (slots + 1)
+      pub numbering-full : n ≡ room → Stages w AllRows (Direct (StepsWithin w i) code s) room cnt w′ (room + 1)
       numbering-full q =
           stages-over (stages-full (a .stages) e new q) (omega arith)
           (λ f. ⊎-elim (direct-as (λ v r. r .0)) (λ p. record { end = u; related = step; is = p ∙ is }))
 
       -- it is staged
-      pub numbering-more : n < slots → leastWork + slots ≤ length w′
-          → Numbering w s i code slots cnt (set w′ (leastWork + n) e) (n + 1) (cleared x)
-      numbering-more f room =
+      pub numbering-more : n < room → leastWork + room ≤ length w′
+          → Numbering w s i code room cnt (set w′ (leastWork + n) e) (n + 1) (cleared x)
+      numbering-more f there =
           record {
             wide = lt-of-le-of-lt (and-le-l x (x - 1)) (a .wide);
             fits = omega arith;
             left = λ k b. a .left k (cleared-iff x z k first .0 b .0);
-            stages = stages-as (stages-put (a .stages) e new f room (λ q h. h)) (λ f. rw is (direct-more u one-more));
+            stages = stages-as (stages-put (a .stages) e new f there (λ q h. h)) (λ f. rw is (direct-more u one-more));
           }
 
   -- no bit is left
-  pub numbering-all : x ≡ 0 → Stages w AllRows (Direct (StepsWithin w i) code s) slots cnt w′ n
+  pub numbering-all : x ≡ 0 → Stages w AllRows (Direct (StepsWithin w i) code s) room cnt w′ n
   numbering-all q = stages-as (a .stages) (λ e. (direct-as (λ v r. r .0), direct-as (λ v r. (r, λ b. no-bit (v % 64) (rw q at b)))))
 
 -- ---- number by number
@@ -150,16 +150,16 @@ abbrev pub StepsBelow : List ℕ → ℕ → ℕ → ℕ → Type 0
 StepsBelow w i a b = StepsTo w a b × (b / 64 < i)
 
 -- the entries for such steps from s are staged
-pub record RowStaged (w : List ℕ) (s code slots cnt : ℕ) (w′ : List ℕ) (n i : ℕ) : Type 0 where
-  pub fits : n ≤ slots
-  pub stages : Stages w AllRows (Direct (StepsBelow w i) code s) slots cnt w′ n
+pub record RowStaged (w : List ℕ) (s code room cnt : ℕ) (w′ : List ℕ) (n i : ℕ) : Type 0 where
+  pub fits : n ≤ room
+  pub stages : Stages w AllRows (Direct (StepsBelow w i) code s) room cnt w′ n
 
-pub row-none : {w : List ℕ} {s code slots cnt : ℕ} → cnt ≤ slots → RowStaged w s code slots cnt w cnt 0
+pub row-none : {w : List ℕ} {s code room cnt : ℕ} → cnt ≤ room → RowStaged w s code room cnt w cnt 0
 row-none c = record { fits = c; stages = stages-none c (λ e d. omega (arith, d .related .1)) }
 
-module _ {w w′ : List ℕ} {s code slots cnt n i : ℕ} (a : RowStaged w s code slots cnt w′ n i) where
+module _ {w w′ : List ℕ} {s code room cnt n i : ℕ} (a : RowStaged w s code room cnt w′ n i) where
   module _ (hs : s < mostVertices) (hc : code < hubUnit) {w″ : List ℕ} {r : ℕ}
-      (t : Stages w′ AllRows (Direct (StepsWithin w′ i) code s) slots n w″ r) where
+      (t : Stages w′ AllRows (Direct (StepsWithin w′ i) code s) room n w″ r) where
     same : (b : ℕ) → StepsTo w′ s b ↔ StepsTo w s b
     same = keeps-steps (a .stages .keeps) (λ q h. omega arith) s
 
@@ -172,19 +172,19 @@ module _ {w w′ : List ℕ} {s code slots cnt n i : ℕ} (a : RowStaged w s cod
         omega (arith, p .related .1, q .related .1)
 
     -- the entries of number i come behind
-    pub row-then : Stages w AllRows (Direct (StepsBelow w (i + 1)) code s) slots cnt w″ r
+    pub row-then : Stages w AllRows (Direct (StepsBelow w (i + 1)) code s) room cnt w″ r
     row-then =
         stages-as (stages-then (a .stages) (a .fits) apart (stages-as t here)) (λ e. direct-or (λ b. (
           ⊎-elim (λ q. (q .0, omega (arith, q .1))) (λ q. (q .0, omega (arith, q .1))),
           λ q. elim (decLt (b / 64) i) [ yes h ↦ inl (q .0, h) | no h ↦ inr (q .0, omega (arith, q .1)) ],
         )))
 
-    pub row-over : slots < r → Stages w AllRows (Direct (StepsTo w) code s) slots cnt w″ r
+    pub row-over : room < r → Stages w AllRows (Direct (StepsTo w) code s) room cnt w″ r
     row-over l = stages-over row-then l (λ e. direct-as (λ b q. q .0))
 
-    pub row-more : r ≤ slots → RowStaged w s code slots cnt w″ r (i + 1)
+    pub row-more : r ≤ room → RowStaged w s code room cnt w″ r (i + 1)
     row-more l = record { fits = l; stages = row-then }
 
   -- every number is passed
-  pub row-all : rowNumbers ≤ i → Stages w AllRows (Direct (StepsTo w) code s) slots cnt w′ n
+  pub row-all : rowNumbers ≤ i → Stages w AllRows (Direct (StepsTo w) code s) room cnt w′ n
   row-all h = stages-as (a .stages) (λ e. (direct-as (λ b q. q .0), direct-as (λ b q. (q, omega (arith, q .to)))))

@@ -45,15 +45,15 @@ pub record GoneStep (w : List ℕ) (d code : ℕ) (w′ : List ℕ) (e : ℕ) : 
   pub gone : On w′ restRow (last .start) → ⊥
 
 -- their entries are staged; the starts of the first i edges are among them
-pub record Splitting (edges w : List ℕ) (d code slots cnt : ℕ) (w′ : List ℕ) (n i : ℕ) : Type 0 where
-  pub fits : n ≤ slots
+pub record Splitting (edges w : List ℕ) (d code room cnt : ℕ) (w′ : List ℕ) (n i : ℕ) : Type 0 where
+  pub fits : n ≤ room
   pub within : (v : ℕ) → v < mostVertices → On w′ restRow v → On w d v
   pub ends : (v : ℕ) → v < mostVertices → On w d v → (On w′ restRow v → ⊥) → Single w d v
   pub seen : (k : ℕ) → k < i → Single w d (fromOf (getD edges k 0)) → On w′ restRow (fromOf (getD edges k 0)) → ⊥
-  pub stages : Stages w Unsplit (GoneStep w d code w′) slots cnt w′ n
+  pub stages : Stages w Unsplit (GoneStep w d code w′) room cnt w′ n
 
-module _ {edges w : List ℕ} {d code slots cnt : ℕ} (c : Domain w d) where
-  pub splitting-none : {w₀ : List ℕ} → Becomes w₀ w restRow (On w₀ d) → cnt ≤ slots → Splitting edges w d code slots cnt w cnt 0
+module _ {edges w : List ℕ} {d code room cnt : ℕ} (c : Domain w d) where
+  pub splitting-none : {w₀ : List ℕ} → Becomes w₀ w restRow (On w₀ d) → cnt ≤ room → Splitting edges w d code room cnt w cnt 0
   splitting-none {w₀} b h =
       record {
         fits = h;
@@ -69,10 +69,10 @@ module _ {edges w : List ℕ} {d code slots cnt : ℕ} (c : Domain w d) where
       there : (v : ℕ) → v < mostVertices → On w d v → On w restRow v
       there v l o = b .row .all v l (sym (same v l) ∙ o)
 
-  module _ {w′ : List ℕ} {n i : ℕ} (a : Splitting edges w d code slots cnt w′ n i) where
+  module _ {w′ : List ℕ} {n i : ℕ} (a : Splitting edges w d code room cnt w′ n i) where
     -- the start of edge i stays as it is
     pub splitting-pass : (Single w d (fromOf (getD edges i 0)) → On w′ restRow (fromOf (getD edges i 0)) → ⊥)
-        → Splitting edges w d code slots cnt w′ n (i + 1)
+        → Splitting edges w d code room cnt w′ n (i + 1)
     splitting-pass f =
         record {
           fits = a .fits;
@@ -107,7 +107,7 @@ module _ {edges w : List ℕ} {d code slots cnt : ℕ} (c : Domain w d) where
 
       -- no second step follows s, and its entries are not staged yet
       module _ (on : On w′ restRow s) (end : Single w d s) (hc : code < hubUnit) {w″ : List ℕ} {r : ℕ}
-          (t : Stages w′ AllRows (Direct (StepsTo w′) code s) slots n w″ r) where
+          (t : Stages w′ AllRows (Direct (StepsTo w′) code s) room n w″ r) where
         steps : (e : ℕ) → Direct (StepsTo w′) code s e ↔ Direct (StepsTo w) code s e
         steps e = (direct-as (λ u. steps-kept kept s u .0), direct-as (λ u. steps-kept kept s u .1))
 
@@ -119,14 +119,14 @@ module _ {edges w : List ℕ} {d code slots cnt : ℕ} (c : Domain w d) where
             let (q, _) = joining-same code (m .last .start) (l .end) s (i .end) hc (r .from) (r .to) small (i .related .to) (sym (l .is) ∙ i .is) in
             m .gone (rw q on)
 
-        both : Stages w Unsplit (λ e. GoneStep w d code w′ e ⊎ Direct (StepsTo w) code s e) slots cnt w″ r
+        both : Stages w Unsplit (λ e. GoneStep w d code w′ e ⊎ Direct (StepsTo w) code s e) room cnt w″ r
         both = stages-then (a .stages) (a .fits) apart (stages-within (stages-as t steps) (λ q u. u .0))
 
-        pub splitting-both : slots < r → Stages w Unsplit (LastStep w d code) slots cnt w″ r
+        pub splitting-both : room < r → Stages w Unsplit (LastStep w d code) room cnt w″ r
         splitting-both l = stages-over both l (λ e. ⊎-elim (λ m. m .last) (λ i. record { start = s; single = end; direct = i }))
 
-        pub splitting-take : ((x : ℕ) → x ∈ edges → fromOf x < mostVertices) → i < length edges → s ≡ fromOf (getD edges i 0) → r ≤ slots
-            → {v : List ℕ} → Becomes w″ v restRow (λ k. On w″ restRow k × (k ≡ s → ⊥)) → Splitting edges w d code slots cnt v r (i + 1)
+        pub splitting-take : ((x : ℕ) → x ∈ edges → fromOf x < mostVertices) → i < length edges → s ≡ fromOf (getD edges i 0) → r ≤ room
+            → {v : List ℕ} → Becomes w″ v restRow (λ k. On w″ restRow k × (k ≡ s → ⊥)) → Splitting edges w d code room cnt v r (i + 1)
         splitting-take starts inside is f {v} b =
             record {
               fits = f;
@@ -172,16 +172,16 @@ module _ {w₀ w : List ℕ} {d : ℕ} (m : d < openRow) (b : Becomes w₀ w res
   domain-copied c = keeps-domain since (child m) (λ a t s. c .starts a t (steps-kept since a t .0 s)) c
 
   -- more than fit, and all
-  pub splitting-over : {code slots cnt r : ℕ} {w′ : List ℕ} → slots < r → Stages w Unsplit (LastStep w d code) slots cnt w′ r
-      → StagesSingles w₀ d code slots cnt w′ r
+  pub splitting-over : {code room cnt r : ℕ} {w′ : List ℕ} → room < r → Stages w Unsplit (LastStep w d code) room cnt w′ r
+      → StagesSingles w₀ d code room cnt w′ r
   splitting-over l t =
       record {
         stages = stages-since (stages-over t l (λ e. lasts e .0)) (b .keeps) (λ q u. u .1) (λ q h e. omega arith);
         rest = λ h. absurd (omega arith);
       }
 
-  pub splitting-all : {edges : List ℕ} {code slots cnt n i : ℕ} {w′ : List ℕ} → SinglesStageable edges w₀ d code slots cnt → length edges ≤ i
-      → Splitting edges w d code slots cnt w′ n i → StagesSingles w₀ d code slots cnt w′ n
+  pub splitting-all : {edges : List ℕ} {code room cnt n i : ℕ} {w′ : List ℕ} → SinglesStageable edges w₀ d code room cnt → length edges ≤ i
+      → Splitting edges w d code room cnt w′ n i → StagesSingles w₀ d code room cnt w′ n
   splitting-all {edges} {code = code} {w′ = w′} p h a =
       record {
         stages = stages-since (stages-as (a .stages) whole) (b .keeps) (λ q u. u .1) (λ q h e. omega arith);

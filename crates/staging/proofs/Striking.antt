@@ -8,14 +8,15 @@ use native.Mathlib.Decide.{ℕ-discrete, decLt}
 use lib.ListN.{length, set}
 use Rattle.model.specs.Limits.{mostVertices, leastWork, hubUnit}
 use Rattle.model.specs.Build.Hubs.{joining, Joined}
+use Rattle.model.specs.Build.Suffixes.{Some}
 use Rattle.model.proofs.Joins.{joining-same, joined-as}
+use Rattle.model.proofs.Suffixes.{some-up}
 use Rattle.rows.specs.Region.{pickedRow}
 use Rattle.rows.specs.Rows.{cell, On, KeepsRows, Becomes, NextVertex, StepsTo}
 use Rattle.rows.proofs.Rows.{keeps-none, keeps-as, keeps-back, keeps-cell, keeps-steps}
 use Rattle.staging.specs.Stage.{Transits, Stages, Unpicked}
-use Rattle.staging.specs.Vertex.{Free}
 use Rattle.staging.proofs.Adding.{put-keeps, stages-none, stages-as, stages-over, stages-kept, stages-since, stages-full, stages-put}
-use Rattle.staging.proofs.Emitting.{Emits, emits-up, emits-more, emits-on}
+use Rattle.staging.proofs.Emitting.{some-also, some-on}
 
 -- ---- steps while row `picked` and the stage change
 
@@ -27,6 +28,11 @@ picked-steps h = unpicked-steps (keeps-as (λ r x. x .1) h)
 
 pub transits-as : {w w′ : List ℕ} → ((a b : ℕ) → StepsTo w a b ↔ StepsTo w′ a b) → Transits w → Transits w′
 transits-as same t = record { on = λ x y z m n. same x z .0 (t .on x y z (same x y .1 m) (same y z .1 n)) }
+
+-- s steps to y, and no vertex below n stands between the two
+pub record Free (w : List ℕ) (s n y : ℕ) : Type 0 where
+  pub step : StepsTo w s y
+  pub alone : (v : ℕ) → v < n → StepsTo w s v → StepsTo w v y → ⊥
 
 free-sooner : {w : List ℕ} {s m n y : ℕ} → m ≤ n → Free w s n y → Free w s m y
 free-sooner h f = record { step = f .step; alone = λ v l. f .alone v (omega arith) }
@@ -74,26 +80,26 @@ module _ {w w′ : List ℕ} {s n q : ℕ} (o : Open w s w′ n) (x : NextVertex
 
 -- e is the entry for s and an end below n
 abbrev pub EndEntries : List ℕ → ℕ → ℕ → ℕ → ℕ → Type 0
-EndEntries w s code = Emits (End w s) (joining code s)
+EndEntries w s code n = Some n (λ u e. End w s u × (e ≡ joining code s u))
 
 -- the entries of the ends before u are staged, and u is the next vertex of row `picked`
-pub record Taking (w : List ℕ) (s code slots cnt : ℕ) (w′ : List ℕ) (k u : ℕ) : Type 0 where
+pub record Taking (w : List ℕ) (s code room cnt : ℕ) (w′ : List ℕ) (k u : ℕ) : Type 0 where
   pub high : u ≤ mostVertices
   pub here : u < mostVertices → On w′ pickedRow u
-  pub fits : k ≤ slots
+  pub fits : k ≤ room
   pub left : Open w s w′ u
-  pub stages : Stages w Unpicked (EndEntries w s code u) slots cnt w′ k
+  pub stages : Stages w Unpicked (EndEntries w s code u) room cnt w′ k
 
 -- row `picked` is row s
-pub taking-none : {w w₁ : List ℕ} {s code slots cnt u : ℕ} → s < mostVertices → cnt ≤ slots → Transits w₁ → Becomes w w₁ pickedRow (On w s)
-    → NextVertex w₁ pickedRow 0 u → Taking w₁ s code slots cnt w₁ cnt u
+pub taking-none : {w w₁ : List ℕ} {s code room cnt u : ℕ} → s < mostVertices → cnt ≤ room → Transits w₁ → Becomes w w₁ pickedRow (On w s)
+    → NextVertex w₁ pickedRow 0 u → Taking w₁ s code room cnt w₁ cnt u
 taking-none {w} {w₁} {s} h c t b n =
     record {
       high = n .high;
       here = n .here;
       fits = c;
       left = open-on whole n t;
-      stages = stages-none c (λ e m. open-none whole n (m .vertex) (omega arith) (m .early) (m .holds));
+      stages = stages-none c (λ e m. open-none whole n (m .which) (omega arith) (m .small) (m .holds .0));
     }
   where
     row : (j : ℕ) → j < mostVertices → cell w₁ s j ≡ cell w s j
@@ -106,7 +112,7 @@ taking-none {w} {w₁} {s} h c t b n =
           all = λ j _ f. b .row .all j (f .step .to) (sym (row j (f .step .to)) ∙ f .step .on);
         }
 
-module _ {w w′ : List ℕ} {s code slots cnt k u : ℕ} (a : Taking w s code slots cnt w′ k u) where
+module _ {w w′ : List ℕ} {s code room cnt k u : ℕ} (a : Taking w s code room cnt w′ k u) where
   module _ (h : u < mostVertices) (small : code < hubUnit) {x : ℕ} (is : x ≡ joining code s u) where
     end-here : End w s u
     end-here = a .left .only u (omega arith) h (a .here h)
@@ -115,23 +121,23 @@ module _ {w w′ : List ℕ} {s code slots cnt k u : ℕ} (a : Taking w s code s
     new : EndEntries w s code u x → ⊥
     new m =
         let f = end-here .step in
-        let q = joining-same _ _ _ _ _ small (f .from) (m .holds .step .to) (f .from) h (sym (m .is) ∙ is) in
-        omega (arith, q .1, m .early)
+        let q = joining-same _ _ _ _ _ small (f .from) (m .holds .0 .step .to) (f .from) h (sym (m .holds .1) ∙ is) in
+        omega (arith, q .1, m .small)
 
     more : (e : ℕ) → (EndEntries w s code u e ⊎ (e ≡ x)) ↔ EndEntries w s code (u + 1) e
-    more e = rw is (emits-more end-here)
+    more e = some-also u e (λ q. (end-here, q ∙ is), λ m. m .1 ∙ sym is)
 
     -- every slot is taken, and u makes one entry more
-    pub taking-full : k ≡ slots → Stages w Unpicked (EndEntries w s code mostVertices) slots cnt w′ (slots + 1)
-    taking-full e = stages-over (stages-full (a .stages) x new e) (omega arith) (λ e m. emits-up (omega arith) (more e .0 m))
+    pub taking-full : k ≡ room → Stages w Unpicked (EndEntries w s code mostVertices) room cnt w′ (room + 1)
+    taking-full e = stages-over (stages-full (a .stages) x new e) (omega arith) (λ e m. some-up (omega arith) (more e .0 m))
 
     -- the entry of u is staged
-    module _ (room : leastWork + slots ≤ length w′) (g : k < slots) where
+    module _ (there : leastWork + room ≤ length w′) (g : k < room) where
       abbrev w₁ : List ℕ
       w₁ = set w′ (leastWork + k) x
 
-      put : Stages w Unpicked (λ e. EndEntries w s code u e ⊎ (e ≡ x)) slots cnt w₁ (k + 1)
-      put = stages-put (a .stages) x new g room (λ q z. z .0)
+      put : Stages w Unpicked (λ e. EndEntries w s code u e ⊎ (e ≡ x)) room cnt w₁ (k + 1)
+      put = stages-put (a .stages) x new g there (λ q z. z .0)
 
       picked : (j : ℕ) → j < mostVertices → cell w₁ pickedRow j ≡ cell w′ pickedRow j
       picked = keeps-cell (put-keeps w′ k x) pickedRow (omega arith)
@@ -176,7 +182,7 @@ module _ {w w′ : List ℕ} {s code slots cnt k u : ℕ} (a : Taking w s code s
           }
 
       pub taking-more : {w₂ : List ℕ} → Struck w s w₁ w₂ (u + 1) → Transits w → {q : ℕ} → NextVertex w₂ pickedRow (u + 1) q
-          → Taking w s code slots cnt w₂ (k + 1) q
+          → Taking w s code room cnt w₂ (k + 1) q
       taking-more c t n =
           record {
             high = n .high;
@@ -185,29 +191,28 @@ module _ {w w′ : List ℕ} {s code slots cnt k u : ℕ} (a : Taking w s code s
             left = open-on (c .left) n t;
             stages = stages-as
                 (stages-kept put (c .keeps) (λ q z. z .1) (λ q z e. omega arith))
-                (λ e. Iff·trans (more e) (emits-on (n .low) (open-none (c .left) n)));
+                (λ e. Iff·trans (more e) (some-on (n .low) (λ v h l m. open-none (c .left) n v h l (m .0))));
           }
 
   -- every end is passed
-  pub taking-all : mostVertices ≤ u → Stages w Unpicked (EndEntries w s code mostVertices) slots cnt w′ k
-  taking-all h = stages-as (a .stages) (λ e. emits-on (a .high) (λ v i l. absurd (omega arith)))
+  pub taking-all : mostVertices ≤ u → Stages w Unpicked (EndEntries w s code mostVertices) room cnt w′ k
+  taking-all h = stages-as (a .stages) (λ e. some-on (a .high) (λ v i l. absurd (omega arith)))
 
 -- ---- as entries of start s
 
 module _ {w w₁ : List ℕ} {s code : ℕ} (b : KeepsRows w w₁ (λ r. r ≢ pickedRow)) where
   ends-joined : (e : ℕ) → EndEntries w₁ s code mostVertices e ↔ Joined (StepsTo w₁) code s e
   ends-joined e = (
-    λ m. record { end = m .vertex; related = m .holds .step; alone = λ v h l. m .holds .alone v (omega arith); is = m .is },
+    λ m. let (f, is) = m .holds in record { end = m .which; related = f .step; alone = λ v h l. f .alone v (omega arith); is = is },
     λ j. record {
-      vertex = j .end;
-      early = j .related .to;
-      holds = record { step = j .related; alone = λ v h. j .alone v (omega arith) (omega arith) };
-      is = j .is;
+      which = j .end;
+      small = j .related .to;
+      holds = (record { step = j .related; alone = λ v h. j .alone v (omega arith) (omega arith) }, j .is);
     },
   )
 
-  pub start-stages : {slots cnt r : ℕ} {w₂ : List ℕ} → Stages w₁ Unpicked (EndEntries w₁ s code mostVertices) slots cnt w₂ r
-      → Stages w Unpicked (Joined (StepsTo w) code s) slots cnt w₂ r
+  pub start-stages : {room cnt r : ℕ} {w₂ : List ℕ} → Stages w₁ Unpicked (EndEntries w₁ s code mostVertices) room cnt w₂ r
+      → Stages w Unpicked (Joined (StepsTo w) code s) room cnt w₂ r
   start-stages c =
       let same = picked-steps b in
       stages-since

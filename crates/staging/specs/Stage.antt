@@ -4,7 +4,7 @@ use mathlib.Core.List.{List}
 use mathlib.Core.Logic.{_≢_}
 use Prim.Native.Nat.{ℕ, _+_, _≤_, _<_}
 use lib.ListN.{length, getD}
-use Rattle.model.specs.Limits.{leastWork, hubUnit}
+use Rattle.model.specs.Limits.{mostVertices, leastWork, hubUnit}
 use Rattle.model.specs.Build.Hubs.{Joined}
 use Rattle.rows.specs.Region.{workRows, restRow, pickedRow}
 use Rattle.rows.specs.Rows.{On, KeepsRows, StepsTo}
@@ -38,12 +38,12 @@ pub record Over (w : List ℕ) (k n : ℕ) (Q : ℕ → Type 0) : Type 0 where
   pub is : Q extra
   pub fresh : StagedAt w k n extra → ⊥
 
--- the numbers of P are staged behind the first cnt: r numbers are staged then, or there are more than slots; the rows of K are kept
-pub record Stages (w : List ℕ) (K P : ℕ → Type 0) (slots cnt : ℕ) (w′ : List ℕ) (r : ℕ) : Type 0 where
+-- the numbers of P are staged behind the first cnt: r numbers are staged then, or there are more than room; the rows of K are kept
+pub record Stages (w : List ℕ) (K P : ℕ → Type 0) (room cnt : ℕ) (w′ : List ℕ) (r : ℕ) : Type 0 where
   pub keeps : KeepsRows w w′ K
   pub old : (i : ℕ) → i < cnt → staged w′ i ≡ staged w i
-  pub done : r ≤ slots → Adds w′ cnt r P
-  pub over : slots < r → Over w′ cnt slots P
+  pub done : r ≤ room → Adds w′ cnt r P
+  pub over : room < r → Over w′ cnt room P
 
 -- the rows that staging keeps
 abbrev pub Unpicked : ℕ → Type 0
@@ -53,12 +53,21 @@ Unpicked r = (r < workRows) × (r ≢ pickedRow)
 pub record Transits (w : List ℕ) : Type 0 where
   pub on : (a b c : ℕ) → StepsTo w a b → StepsTo w b c → StepsTo w a c
 
--- the step rows are closed, and there is room for the slots
-pub record Stageable (w : List ℕ) (code slots cnt : ℕ) : Type 0 where
-  pub transits : Transits w
+-- the code fits an entry, and work memory has `room` slots behind its rows, cnt of them taken
+pub record HasRoom (w : List ℕ) (code room cnt : ℕ) : Type 0 where
   pub code-small : code < hubUnit
-  pub count : cnt ≤ slots
-  pub room : leastWork + slots ≤ length w
+  pub count : cnt ≤ room
+  pub there : leastWork + room ≤ length w
+
+-- the step rows are closed, and there is room: for all starts, and for start s
+pub record Stageable (w : List ℕ) (code room cnt : ℕ) : Type 0 where
+  pub transits : Transits w
+  pub space : HasRoom w code room cnt
+
+pub record VertexStageable (w : List ℕ) (s code room cnt : ℕ) : Type 0 where
+  pub vertex : s < mostVertices
+  pub transits : Transits w
+  pub space : HasRoom w code room cnt
 
 -- e is the entry for a vertex of row `rest` and one to which it steps, with none earlier than both between the two
 pub record RestEntry (w : List ℕ) (code e : ℕ) : Type 0 where

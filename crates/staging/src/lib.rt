@@ -6,6 +6,7 @@ use model::LEAST_WORK;
 use model::MOST_VERTICES;
 use model::OWNER_UNIT;
 use model::SIDE_UNIT;
+use rows::BITS;
 use rows::PICKED;
 use rows::REST;
 use rows::ROW;
@@ -16,12 +17,8 @@ ghost use Rattle.model.specs.Entries.{entryOf};
 ghost use Rattle.model.specs.Build.Hubs.{joining, Direct, Joined};
 ghost use Rattle.rows.specs.Region.{rowNumbers};
 ghost use Rattle.rows.specs.Rows.{StepsTo};
-ghost use Rattle.staging.specs.Stage.{Stages, Unpicked, Stageable, RestEntry};
-ghost use Rattle.staging.specs.Vertex.{VertexStageable};
+ghost use Rattle.staging.specs.Stage.{Stages, Unpicked, Stageable, VertexStageable, RestEntry};
 ghost use Rattle.staging.specs.Single.{AllRows, StepsWithin, StepsStageable, SinglesStageable, StagesSingles};
-
-// The bits of a number.
-const BITS: usize = MOST_VERTICES / ROW;
 
 // The number of an entry.
 fn entry(side: u64, owner: usize, hub: usize, code: u64) -> u64
@@ -42,17 +39,17 @@ fn joined(s: usize, t: usize, code: u64) -> u64
     entry(0, s, t, code)
 }
 
-// Stages the entries for the steps from s to the vertices of number i of its row behind the first cnt. Returns how many are staged then, or
-// slots + 1 if there are more than slots.
-fn stage_number(w: &mut [u64], s: usize, i: usize, code: u64, slots: usize, cnt: usize) -> usize
-    requires { ⌜ StepsStageable (now w) s code slots cnt × (i < rowNumbers) ⌝ }
-    ensures { λ r. ⌜ Stages (now (w .entry)) AllRows (Direct (StepsWithin (now (w .entry)) i) code s) slots cnt (now (w .exit)) r ⌝ }
+// Stages, behind the first cnt, the entries for the steps from s to the vertices in number i of its row. Returns how many are staged then, or
+// room + 1 if there are more than room.
+fn stage_number(w: &mut [u64], s: usize, i: usize, code: u64, room: usize, cnt: usize) -> usize
+    requires { ⌜ StepsStageable (now w) s code room cnt × (i < rowNumbers) ⌝ }
+    ensures { λ r. ⌜ Stages (now (w .entry)) AllRows (Direct (StepsWithin (now (w .entry)) i) code s) room cnt (now (w .exit)) r ⌝ }
 {
     let mut n = cnt;
     let mut x = w[s * ROW + i];
     while x != 0 {
-        if n == slots {
-            return slots + 1;
+        if n == room {
+            return room + 1;
         }
         let z = u64::trailing_zeros(x) as usize;
         w[LEAST_WORK + n] = joined(s, i * BITS + z, code);
@@ -62,16 +59,16 @@ fn stage_number(w: &mut [u64], s: usize, i: usize, code: u64, slots: usize, cnt:
     n
 }
 
-// Stages the entries for the steps from s behind the first cnt; returns as stage_number does.
-fn stage_steps(w: &mut [u64], s: usize, code: u64, slots: usize, cnt: usize) -> usize
-    requires { ⌜ StepsStageable (now w) s code slots cnt ⌝ }
-    ensures { λ r. ⌜ Stages (now (w .entry)) AllRows (Direct (StepsTo (now (w .entry))) code s) slots cnt (now (w .exit)) r ⌝ }
+// Stages, behind the first cnt, the entries for the steps from s; returns as stage_number does.
+fn stage_steps(w: &mut [u64], s: usize, code: u64, room: usize, cnt: usize) -> usize
+    requires { ⌜ StepsStageable (now w) s code room cnt ⌝ }
+    ensures { λ r. ⌜ Stages (now (w .entry)) AllRows (Direct (StepsTo (now (w .entry))) code s) room cnt (now (w .exit)) r ⌝ }
 {
     let mut n = cnt;
     let mut i = 0;
     while i < ROW {
-        n = stage_number(w, s, i, code, slots, n);
-        if slots < n {
+        n = stage_number(w, s, i, code, room, n);
+        if room < n {
             return n;
         }
         i += 1;
@@ -79,18 +76,18 @@ fn stage_steps(w: &mut [u64], s: usize, code: u64, slots: usize, cnt: usize) -> 
     n
 }
 
-// Stages the entries of the starts whose walks are one step, and leaves the other starts in row REST. Every vertex that steps anywhere is in
-// row `domain`, and an edge of the list starts at each vertex of it; returns as stage_steps does.
+// Stages, behind the first cnt, the entries of the starts whose walks are one step, and leaves the other starts in row REST. Every vertex that
+// steps anywhere is in row `domain`, and an edge of the list starts at each vertex of it; returns as stage_steps does.
 pub fn stage_singles(
     edges: &[u32],
     w: &mut [u64],
     domain: usize,
     code: u64,
-    slots: usize,
+    room: usize,
     cnt: usize,
 ) -> usize
-    requires { ⌜ SinglesStageable (now edges) (now w) domain code slots cnt ⌝ }
-    ensures { λ r. ⌜ StagesSingles (now (w .entry)) domain code slots cnt (now (w .exit)) r ⌝ }
+    requires { ⌜ SinglesStageable (now edges) (now w) domain code room cnt ⌝ }
+    ensures { λ r. ⌜ StagesSingles (now (w .entry)) domain code room cnt (now (w .exit)) r ⌝ }
 {
     rows::copy(w, REST, domain);
     let mut n = cnt;
@@ -99,8 +96,8 @@ pub fn stage_singles(
         let s = (edges[i] / FROM_UNIT) as usize;
         if rows::bit(w, REST, s) == 1 {
             if rows::common(w, s, domain) == MOST_VERTICES {
-                n = stage_steps(w, s, code, slots, n);
-                if slots < n {
+                n = stage_steps(w, s, code, room, n);
+                if room < n {
                     return n;
                 }
                 rows::unmark(w, REST, s);
@@ -111,18 +108,18 @@ pub fn stage_singles(
     n
 }
 
-// Stages the entries of start s behind the first cnt: the vertices of its closed row, less the rows of those taken before that are earlier
+// Stages, behind the first cnt, the entries of start s: the vertices of its closed row, less the rows of those taken before that are earlier
 // than s. As the rows are closed, what a vertex that was struck out leads to is struck out as well. Returns as stage_steps does.
-fn stage_vertex(w: &mut [u64], s: usize, code: u64, slots: usize, cnt: usize) -> usize
-    requires { ⌜ VertexStageable (now w) s code slots cnt ⌝ }
-    ensures { λ r. ⌜ Stages (now (w .entry)) Unpicked (Joined (StepsTo (now (w .entry))) code s) slots cnt (now (w .exit)) r ⌝ }
+fn stage_vertex(w: &mut [u64], s: usize, code: u64, room: usize, cnt: usize) -> usize
+    requires { ⌜ VertexStageable (now w) s code room cnt ⌝ }
+    ensures { λ r. ⌜ Stages (now (w .entry)) Unpicked (Joined (StepsTo (now (w .entry))) code s) room cnt (now (w .exit)) r ⌝ }
 {
     rows::copy(w, PICKED, s);
     let mut n = cnt;
     let mut u = rows::next(w, PICKED, 0);
     while u < MOST_VERTICES {
-        if n == slots {
-            return slots + 1;
+        if n == room {
+            return room + 1;
         }
         w[LEAST_WORK + n] = joined(s, u, code);
         n += 1;
@@ -134,16 +131,16 @@ fn stage_vertex(w: &mut [u64], s: usize, code: u64, slots: usize, cnt: usize) ->
     n
 }
 
-// Stages the entries of the starts in row REST behind the first cnt. Returns as stage_steps does.
-pub fn stage(w: &mut [u64], code: u64, slots: usize, cnt: usize) -> usize
-    requires { ⌜ Stageable (now w) code slots cnt ⌝ }
-    ensures { λ r. ⌜ Stages (now (w .entry)) Unpicked (RestEntry (now (w .entry)) code) slots cnt (now (w .exit)) r ⌝ }
+// Stages, behind the first cnt, the entries of the starts in row REST. Returns as stage_steps does.
+pub fn stage(w: &mut [u64], code: u64, room: usize, cnt: usize) -> usize
+    requires { ⌜ Stageable (now w) code room cnt ⌝ }
+    ensures { λ r. ⌜ Stages (now (w .entry)) Unpicked (RestEntry (now (w .entry)) code) room cnt (now (w .exit)) r ⌝ }
 {
     let mut n = cnt;
     let mut s = rows::next(w, REST, 0);
     while s < MOST_VERTICES {
-        n = stage_vertex(w, s, code, slots, n);
-        if slots < n {
+        n = stage_vertex(w, s, code, room, n);
+        if room < n {
             return n;
         }
         s = rows::next(w, REST, s + 1);

@@ -1,4 +1,4 @@
--- Rows filled, one for each vertex, and emptied.
+-- Rows filled, one for each vertex; one row with where edges start; and rows emptied.
 use mathlib.Core.Path.{_≡_, sym, _∙_}
 use mathlib.Core.Logic.{_⊎_, inl, inr, ⊎-elim, ⊎-map, _↔_}
 use mathlib.Core.List.{List, List·Memᴰ·not-nil}

@@ -12,12 +12,19 @@ use Rattle.model.specs.Edges.{edgeNumber, fromOf, toOf}
 use Rattle.model.proofs.Edges.{edge-fields}
 use Rattle.edges.specs.Grouped.{section, Grouped}
 use Rattle.rows.specs.Rows.{On}
-use Rattle.steps.specs.Filling.{Outgoing, Starting, LeadsTo, LeadsInto, Via, Gathers}
+use Rattle.steps.specs.Filling.{Outgoing, Starting, LeadsTo, LeadsInto, Gathers}
 
 part-in : (n m : ℕ) (l : List ℕ) {x : ℕ} → x ∈ take n (drop m l) → x ∈ l
 part-in n m l k =
     let behind = rw (take-append-drop n (drop m l)) at (Memᴰ·append-left (drop n (drop m l)) k) in
     rw (take-append-drop m l) at (Memᴰ·append-right (take m l) behind)
+
+-- an edge with label c leads from a to a vertex whose row, of those from `base` on, has t
+pub record Via (edges w : List ℕ) (base a c t : ℕ) : Type 0 where
+  pub b : ℕ
+  pub small : b < mostVertices
+  pub stands : edgeNumber a c b ∈ edges
+  pub on : On w (base + b) t
 
 -- ---- the slots of label c
 

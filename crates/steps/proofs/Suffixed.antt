@@ -1,4 +1,4 @@
--- The suffixes' rows, for callers.
+-- The rows of a word's suffixes, with one label more in front: for callers.
 use mathlib.Core.Path.{_≡_, _∙_}
 use mathlib.Core.List.{List, _∷_}
 use Prim.Native.Nat.{ℕ, zero, suc, _+_, _*_, _≤_, _<_}

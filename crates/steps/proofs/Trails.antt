@@ -33,7 +33,8 @@ module _ {edges : List ℕ} where
 
 -- edges of a graph
 module _ {edges : List ℕ} {vertices : ℕ} where
-  pub trail-spells : ((x : ℕ) → x ∈ edges → edge? vertices x ≡ true) → {a t : ℕ} {l : List ℕ} → Trail edges a l t → a < vertices → Spells (bare vertices edges) a l t
+  pub trail-spells : ((x : ℕ) → x ∈ edges → edge? vertices x ≡ true) → {a t : ℕ} {l : List ℕ} → Trail edges a l t → a < vertices
+      → Spells (bare vertices edges) a l t
   trail-spells f Trail.here k = Spells.here
   trail-spells f (Trail.edge {a = a} {c = c} {b = b} h e p) k =
       let to = edge-to vertices a c b h (f _ e) in

@@ -1,4 +1,4 @@
--- A word's rows, label by label from its end: one turn, and all of them.
+-- A word's rows, label by label from its end: one turn, all of them, and emptied again.
 use mathlib.Core.Path.{_≡_, refl, sym, subst, _∙_}
 use mathlib.Core.Logic.{⊎-elim, inl, inr}
 use mathlib.Core.List.{List, [], _∷_}
@@ -16,9 +16,10 @@ use Rattle.rows.specs.Region.{stepRows, parentRows, savedRows, childRows}
 use Rattle.rows.specs.Rows.{On, Row, KeepsRows, InRows, Empty}
 use Rattle.rows.proofs.Rows.{row-as, keeps-none, keeps-as, keeps-then, keeps-long, keeps-cell, keeps-row, keeps-empty}
 use Rattle.steps.specs.Steps.{Trail, Word, sourceRow, Sources, FillsParent, ParentClearable}
-use Rattle.steps.specs.Filling.{Clears, FillsRows, Starting, LeadsTo, LeadsInto, Via, Gathers, RowsFillable, EndsFillable, SourcesClearable, Prependable, Prepends}
+use Rattle.steps.specs.Filling.{Clears, FillsRows, Starting, LeadsTo, LeadsInto, Gathers}
+use Rattle.steps.specs.Filling.{RowsFillable, EndsFillable, SourcesClearable, Prependable, Prepends}
 use Rattle.steps.proofs.Trails.{trail-none, trail-edge}
-use Rattle.steps.proofs.Live.{Started, live-outgoing, live-leads, label-outgoing, label-starting, label-leads, label-via, label-fits}
+use Rattle.steps.proofs.Live.{Via, Started, live-outgoing, live-leads, label-outgoing, label-starting, label-leads, label-via, label-fits}
 
 -- a half's rows lie before the others
 pub halves-keep : {w w′ : List ℕ} {base : ℕ} → base ≤ parentRows
@@ -157,7 +158,7 @@ module _ {edges slots l w w′ : List ℕ} {j c from : ℕ} (g : Turning edges l
       rw (first-is, behind-is) (record {
         long = keeps-long kept (s .long);
         half = elim (ℕ-discrete (j % 2) 0) [ yes z ↦ inr (omega (arith, g .half)) | no z ↦ inl (omega (arith, g .half)) ];
-        starts-row = record { least = omega (arith, turning-range); most = omega (arith, turning-range, word .short) };
+        starts-row = omega (arith, turning-range, word .short);
         outgoing = (label-outgoing grouped (getD l i 0) (label-range word i inside), label-outgoing grouped c turning-range);
         quiet = g .quiet;
         sources = λ a t h k o. let p = g .rows a h .only t k o in (on a h t p, starting a t p);

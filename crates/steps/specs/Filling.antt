@@ -6,7 +6,7 @@ use Prim.Native.Nat.{ℕ, _+_, _-_, _≤_, _<_}
 use lib.ListN.{length, take}
 use Rattle.model.specs.Limits.{mostVertices, leastWork}
 use Rattle.model.specs.Lists.{_∈_}
-use Rattle.model.specs.Edges.{edgeNumber, fromOf, toOf}
+use Rattle.model.specs.Edges.{fromOf, toOf}
 use Rattle.rows.specs.Region.{workRows, stepRows, parentRows, savedRows}
 use Rattle.rows.specs.Rows.{On, Has, Row, KeepsRows, InRows, Empty}
 
@@ -52,13 +52,6 @@ pub record LeadsInto (edges w : List ℕ) (base a t : ℕ) : Type 0 where
   pub from : fromOf edge ≡ a
   pub on : On w (base + toOf edge) t
 
--- an edge with label c leads from a to a vertex whose row, of those from `base` on, has t
-pub record Via (edges w : List ℕ) (base a c t : ℕ) : Type 0 where
-  pub b : ℕ
-  pub small : b < mostVertices
-  pub stands : edgeNumber a c b ∈ edges
-  pub on : On w (base + b) t
-
 -- work memory has row `starts`, and there is room for all edges of the list
 pub record Gatherable (edges w : List ℕ) (starts : ℕ) (live : List ℕ) : Type 0 where
   pub has : Has w starts
@@ -74,8 +67,8 @@ pub record Gathers (edges w : List ℕ) (starts : ℕ) (live : List ℕ) (n : �
 pub record RowsFillable (edges w : List ℕ) (from to : ℕ) : Type 0 where
   pub outgoing : Outgoing edges
   pub long : leastWork ≤ length w
-  pub from-rows : from + mostVertices ≤ savedRows
-  pub to-rows : to + mostVertices ≤ savedRows
+  pub from-rows : from + mostVertices ≤ workRows
+  pub to-rows : to + mostVertices ≤ workRows
   pub apart : (a b : ℕ) → a < mostVertices → b < mostVertices → from + b ≡ to + a → ⊥
   pub empty : Empty w to mostVertices
 
@@ -83,7 +76,7 @@ pub record RowsFillable (edges w : List ℕ) (from to : ℕ) : Type 0 where
 pub record EndsFillable (edges w : List ℕ) (to : ℕ) : Type 0 where
   pub outgoing : Outgoing edges
   pub long : leastWork ≤ length w
-  pub to-rows : to + mostVertices ≤ savedRows
+  pub to-rows : to + mostVertices ≤ workRows
   pub empty : Empty w to mostVertices
 
 -- of the rows from `base` on, only those of vertices where an edge of the list starts have any vertex
@@ -98,7 +91,7 @@ pub record SourcesClearable (edges w : List ℕ) (base : ℕ) : Type 0 where
 pub record Prependable (first behind w : List ℕ) (from starts : ℕ) (live : List ℕ) : Type 0 where
   pub long : leastWork ≤ length w
   pub half : (from ≡ stepRows) ⊎ (from ≡ parentRows)
-  pub starts-row : InRows savedRows workRows starts
+  pub starts-row : starts < workRows
   pub outgoing : Outgoing first × Outgoing behind
   pub quiet : Empty w (parentRows - from) mostVertices
   pub sources : (a t : ℕ) → a < mostVertices → t < mostVertices → On w (from + a) t → On w starts a × Starting behind a

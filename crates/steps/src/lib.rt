@@ -11,7 +11,8 @@ ghost use Rattle.edges.specs.Grouped.{section, Grouped};
 ghost use Rattle.rows.specs.Region.{workRows, parentRows};
 ghost use Rattle.rows.specs.Rows.{Has, Becomes};
 ghost use Rattle.steps.specs.Steps.{ParentFillable, FillsParent, ParentClearable};
-ghost use Rattle.steps.specs.Filling.{Clears, IdentityFillable, FillsRows, Outgoing, Starting, LeadsTo, LeadsInto, Gatherable, Gathers, RowsFillable, EndsFillable, SourcesClearable, Prependable, Prepends};
+ghost use Rattle.steps.specs.Filling.{Clears, IdentityFillable, FillsRows, Outgoing, Starting, LeadsTo, LeadsInto, Gatherable, Gathers};
+ghost use Rattle.steps.specs.Filling.{RowsFillable, EndsFillable, SourcesClearable, Prependable, Prepends};
 
 // Empties the n rows from `base` on.
 pub fn clear_rows(w: &mut [u64], base: usize, n: usize)
@@ -82,7 +83,7 @@ pub fn fill(edges: &[u32], w: &mut [u64], from: usize, to: usize)
     }
 }
 
-// The same with the vertex itself, for its row.
+// The same, with the vertex that the edge leads to in place of its row.
 fn fill_ends(edges: &[u32], w: &mut [u64], to: usize)
     requires { ⌜ EndsFillable (now edges) (now w) to ⌝ }
     ensures { λ _. ⌜ FillsRows to (LeadsTo (now (edges .entry))) (now (w .entry)) (now (w .exit)) ⌝ }
@@ -108,16 +109,16 @@ pub fn clear_sources(edges: &[u32], w: &mut [u64], base: usize)
 }
 
 // The edges of label c.
-fn labelled<'a>(edges: &'a [u32], slots: &[usize], c: usize) -> &'a [u32]
+pub fn labelled<'a>(edges: &'a [u32], slots: &[usize], c: usize) -> &'a [u32]
     requires { ⌜ Grouped (now edges) (now slots) × ((1 ≤ c) × (c ≤ mostLabel)) ⌝ }
     ensures { λ part. ⌜ now part ≡ section (now (edges .entry)) (now (slots .entry)) (c - 1) ⌝ }
 {
     &edges[slots[c - 1]..slots[c]]
 }
 
-// One label more in front of a word. The word's rows are those from `from` on, the step rows or the parent's; the other half becomes the rows
-// of an edge of `first` and then the word, and the word's own are emptied. Of these a row has vertices only if its vertex is in row `starts` and
-// an edge of `behind` starts there.
+// One label more in front of a word. The word's rows are those from `from` on, the step rows or the parent's; the other half, which
+// begins at rows::PARENT - from since the step rows begin at 0, becomes the rows of an edge of `first` and then the word, and the word's own
+// are emptied. Of these a row has vertices only if its vertex is in row `starts` and an edge of `behind` starts there.
 fn prepend(
     first: &[u32],
     behind: &[u32],
@@ -137,7 +138,8 @@ fn prepend(
 
 // Makes row a of the parent's rows, for every vertex a, the vertices to which the word leads from a, label by label from its end: the step
 // rows and the parent's take turns, so that the first label fills the parent's. Of each label only the edges count that end where the labels
-// behind it can be spelled; every suffix of the word has its child row. The step rows are empty afterwards.
+// behind it can be spelled; every suffix of the word has its child row. The step rows are empty afterwards. They begin at 0:
+// rows::PARENT - from is where the other half begins.
 pub fn fill_parent(edges: &[u32], slots: &[usize], word: &[u8], w: &mut [u64], live: &mut [u32])
     requires { ⌜ ParentFillable (now edges) (now slots) (now word) (now w) (now live) ⌝ }
     ensures { λ _. ⌜ FillsParent (now (edges .entry)) (now (word .entry)) (now (w .entry)) (now (w .exit)) ⌝ }

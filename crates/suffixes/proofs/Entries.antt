@@ -26,7 +26,7 @@ use Rattle.model.proofs.Suffixes.{all-beyond}
 use Rattle.model.proofs.Codes.{code-inj}
 use Rattle.rows.specs.Rows.{NextVertex}
 use Rattle.rows.proofs.Rows.{next-none}
-use Rattle.closure.proofs.Plus.{plus-from}
+use Rattle.model.proofs.Plus.{plus-from}
 use Rattle.steps.specs.Steps.{Trail}
 use Rattle.steps.proofs.Trails.{trail-cut, trail-to, trail-spells, spells-trail}
 use Rattle.suffixes.specs.Suffixes.{Spans, PatternEntry, ChildRow}
@@ -54,7 +54,8 @@ numbered edges l (EntryBy.into p) =
     let (a, b) = plus-ends (p .related) in
     record { side = 1; owner = p .owner; hub = p .hub; owner-small = b; hub-small = a; is = p .is }
 
-pub one-pattern : {k : ℕ} {edges : List ℕ} → k ≤ mostLongest → (l m : List ℕ) (e : ℕ) → With k (PatternEntry edges) l e → With k (PatternEntry edges) m e → l ≡ m
+pub one-pattern : {k : ℕ} {edges : List ℕ} → k ≤ mostLongest → (l m : List ℕ) (e : ℕ)
+    → With k (PatternEntry edges) l e → With k (PatternEntry edges) m e → l ≡ m
 one-pattern {k} {edges} h l m e p q =
     let a = numbered edges l (p .holds) in
     let b = numbered edges m (q .holds) in

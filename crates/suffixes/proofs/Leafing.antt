@@ -1,15 +1,15 @@
 -- The entries with one label before a word: its edges gathered, its row filled, and the entries staged.
-use mathlib.Core.Path.{_≡_, refl, sym, ap, _∙_}
+use mathlib.Core.Path.{_≡_, sym, ap, _∙_}
 use mathlib.Core.Bool.{true, false}
 use mathlib.Core.Logic.{_↔_, Iff·symm}
 use mathlib.Core.List.{List, [], _∷_, List·Memᴰ·not-nil}
 use Prim.Native.Nat.{ℕ, suc, _+_, _-_, _≤_, _<_}
 use native.Mathlib.Omega.{arith}
-use lib.ListN.{length, getD, take, drop, length-drop}
+use lib.ListN.{length, take, drop, length-drop}
 use lib.Seq.{take-all}
 use Rattle.model.specs.Limits.{mostVertices, mostLabel, mostLongest}
 use Rattle.model.specs.Lists.{_∈_}
-use Rattle.model.specs.Edges.{fromOf, toOf}
+use Rattle.model.specs.Edges.{toOf}
 use Rattle.model.specs.Patterns.{Keyed, code}
 use Rattle.model.specs.Computed.Patterns.{own?}
 use Rattle.model.specs.Build.Hubs.{Plus}
@@ -17,17 +17,17 @@ use Rattle.model.specs.Build.Suffixes.{Leaf}
 use Rattle.model.proofs.Tests.{test-yields, test-fails}
 use Rattle.model.proofs.Patterns.{test-own, code-below}
 use Rattle.model.proofs.Hubs.{entry-by-as}
-use Rattle.edges.specs.Grouped.{section, Grouped}
+use Rattle.edges.specs.Grouped.{section}
 use Rattle.rows.specs.Region.{stepRows, parentRows}
 use Rattle.rows.specs.Rows.{cell, KeepsRows, InRows, Empty, Becomes}
 use Rattle.rows.proofs.Rows.{keeps-cell, keeps-row, keeps-empty}
-use Rattle.closure.proofs.Plus.{plus-as}
+use Rattle.model.proofs.Plus.{plus-as}
 use Rattle.staging.specs.Stage.{Stages}
 use Rattle.staging.proofs.Adding.{stages-none, stages-as, stages-since, stages-within}
 use Rattle.steps.specs.Steps.{Trail}
-use Rattle.steps.specs.Filling.{Outgoing, Starting, LeadsInto, Via, Gatherable, Gathers}
+use Rattle.steps.specs.Filling.{Outgoing, Starting, LeadsInto, Gatherable, Gathers}
 use Rattle.steps.proofs.Trails.{trail-edge, edge-trail}
-use Rattle.steps.proofs.Live.{Started, section-fits, section-outgoing, section-leads, live-outgoing, live-via}
+use Rattle.steps.proofs.Live.{Via, Started, section-fits, section-outgoing, section-leads, live-outgoing, live-via}
 use Rattle.pattern_entries.specs.Pattern.{Led, PatternStageable, PatternStages, LedEntry}
 use Rattle.suffixes.specs.Suffixes.{Spans, PatternEntry, wordOf, baseOf, Child, ChildRow, LeafStageable, LeafStages}
 use Rattle.suffixes.proofs.Entries.{no-entry}
@@ -61,17 +61,6 @@ module _ {edges slots digits w : List ℕ} {d starts : ℕ} {live : List ℕ} {l
 none-taken : (n : ℕ) (l : List ℕ) {x : ℕ} → n ≡ 0 → x ∈ take n l → ⊥
 none-taken n l z m = List·Memᴰ·not-nil (rw z at m)
 
--- the slots of label suc c, as they are read
-module _ {edges slots : List ℕ} (g : Grouped edges slots) {c : ℕ} (small : c < mostLabel) where
-  next : c + 1 ≡ suc c
-  next = omega arith
-
-  pub slots-rise : getD slots c 0 ≤ getD slots (c + 1) 0
-  slots-rise = rw next (g .rises c small)
-
-  pub slots-most : getD slots (c + 1) 0 ≤ length edges
-  slots-most = g .most (c + 1) (omega arith)
-
 module _ {edges slots digits w : List ℕ} {d starts : ℕ} {live : List ℕ} {longest room cnt c : ℕ}
     (l : LeafStageable edges slots digits w d starts live longest room cnt) (small : c < mostLabel) where
   abbrev word : List ℕ
@@ -81,22 +70,16 @@ module _ {edges slots digits w : List ℕ} {d starts : ℕ} {live : List ℕ} {l
   deep : baseOf d + c < baseOf longest
   deep = omega (arith, l .chosen .more)
 
-  -- the edges of the label as they are lent
-  abbrev lent : List ℕ
-  lent = take (getD slots (c + 1) 0 - getD slots c 0) (drop (getD slots c 0) edges)
+  -- the edges that are cut out are those of the label, if they have its number
+  pub of-label : {part : List ℕ} {k : ℕ} → part ≡ section edges slots k → k ≡ c → part ≡ section edges slots c
+  of-label e same = rw same at e
 
-  lent-is : lent ≡ section edges slots c
-  lent-is =
-      let e : c + 1 ≡ suc c = omega arith in
-      ap (λ (k : ℕ). take (getD slots k 0 - getD slots c 0) (drop (getD slots c 0) edges)) e
-
-  pub gatherable : Gatherable lent w starts live
+  pub gatherable : Gatherable (section edges slots c) w starts live
   gatherable =
-      rw lent-is
-      (record {
+      record {
         has = record { row = omega (arith, l .before, l .chosen .more, l .chosen .most); long = omega (arith, l .there) };
         room = omega (arith, section-fits (l .grouped) c small, l .listable);
-      })
+      }
 
   -- ---- the pattern
   pub keyed : Keyed longest (suc c ∷ word)
@@ -116,13 +99,9 @@ module _ {edges slots digits w : List ℕ} {d starts : ℕ} {live : List ℕ} {l
       ∙ (ap (λ (i : ℕ). drop i next) e ∙ f .word)
 
   -- ---- the edges gathered
-  module _ {live′ : List ℕ} {n : ℕ} (lists : Gathers lent w starts live′ n) where
+  module _ {live′ : List ℕ} {n : ℕ} (g : Gathers (section edges slots c) w starts live′ n) where
     abbrev gathered : List ℕ
     gathered = take n live′
-
-    -- from the label's section
-    g : Gathers (section edges slots c) w starts live′ n
-    g = rw lent-is at lists
 
     -- they have room
     pub gathered-fit : n ≤ length live

@@ -55,7 +55,7 @@ fn leaf(
         ⌝ }
 {
     let row = rows::CHILDREN + MOST_LABEL * d + c;
-    let n = steps::gather(&edges[slots[c]..slots[c + 1]], w, starts, live);
+    let n = steps::gather(steps::labelled(edges, slots, c + 1), w, starts, live);
     steps::sources(&live[..n], w, row);
     if n == 0 {
         return cnt;

@@ -1,4 +1,4 @@
--- The entries of one pattern by their hubs, over vertices in their own order.
+-- The entries of one pattern by their hubs and by their starts, over vertices in their own order.
 use mathlib.Core.Path.{_≡_}
 use mathlib.Core.Bool.{cond}
 use mathlib.Core.Logic.{_⊎_}

@@ -10,7 +10,8 @@ use Rattle.output.proofs.put_one.Tie as tie
 
 -- the vertices that are read
 bytes : (c : tie.After-shared-slice-known)
-    → (getD (c .before .args .order .now) (ownerOf (c .before .args .x)) 0 < mostVertices) × (getD (c .before .args .order .now) (hubOf (c .before .args .x)) 0 < mostVertices)
+    → (getD (c .before .args .order .now) (ownerOf (c .before .args .x)) 0 < mostVertices)
+    × (getD (c .before .args .order .now) (hubOf (c .before .args .x)) 0 < mostVertices)
 bytes c =
     let x = c .before .args .x in
     (omega (arith, c .shared-slice-known .given (ownerOf x)), omega (arith, c .shared-slice-known .given (hubOf x)))

@@ -4,7 +4,7 @@ use mathlib.Core.List.{_++_}
 use lib.ListN.{length, take, drop}
 use lib.Seq.{length-take-le}
 use borrow.Author.Needs.{needs}
-use Rattle.sort.specs.Order.{Distinct, ThirtyThreeBits}
+use Rattle.sort.specs.Order.{Distinct, Sortable}
 use Rattle.output.proofs.Writing.{written-as, front-is, written}
 use Rattle.output.proofs.write.Statement.{statement}
 use Rattle.output.proofs.write.Tie as tie
@@ -28,7 +28,9 @@ module _ (c : tie.After-put-back) where
   put-long = c .put-back .kept .1 .1 .0 ∙ front (start c)
 
   -- what is lent to the sort
-  lent : take (length (start c .args .staged .now)) (c .put-back .last .1 .1 .0 ++ drop (length (start c .args .staged .now)) (start c .args .index .now))
+  lent :
+      take (length (start c .args .staged .now))
+      (c .put-back .last .1 .1 .0 ++ drop (length (start c .args .staged .now)) (start c .args .index .now))
       ≡ c .put-back .last .1 .1 .0
   lent = front-is (c .put-back .last .1 .1 .0) (start c .args .index .now) _ put-long (start c .pre .fits)
 
@@ -39,7 +41,7 @@ sort-requires : tie.Need-sort-requires
 sort-requires c κs =
     let put = c .before .before .before .before in
     let e = sym (lent put ∙ put .put-back .ensures) in
-    (ap length (lent put) ∙ put-long put, (subst Distinct e (start put .pre .distinct), subst ThirtyThreeBits e (start put .pre .narrow)))
+    (ap length (lent put) ∙ put-long put, (subst Distinct e (start put .pre .distinct), subst Sortable e (start put .pre .narrow)))
 
 returns : tie.Need-returns
 returns c =

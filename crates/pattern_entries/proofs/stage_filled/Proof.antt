@@ -37,7 +37,12 @@ returns-2 c =
     let close = staged .before .before .before .before in
     let left = close .before .before in
     let singles = left .before .before .before in
-    filled-all (singles .before .before .before .before .pre) (singles .stage-singles .ensures) (left .if1 .left) (close .close .ensures) (staged .stage .ensures)
+    filled-all
+    (singles .before .before .before .before .pre)
+    (singles .stage-singles .ensures)
+    (left .if1 .left)
+    (close .close .ensures)
+    (staged .stage .ensures)
 
 pub stage-filled-spec : {M : Type 1} → statement M
 stage-filled-spec =

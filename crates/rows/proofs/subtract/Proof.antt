@@ -11,7 +11,9 @@ load-requires-2 : tie.Need-load-requires-2
 load-requires-2 c κs = search needs
 
 store-requires : tie.Need-store-requires
-store-requires c κs = c .before .before .before .before .before .before .before .before .before .before .before .before .before .before .before .before .before .before .pre .0
+store-requires c κs =
+    let second = c .before .before .before .before .before .before .before .before .before .before .before .before .before in
+    second .before .before .before .before .before .pre .0
 
 same-length : tie.Need-same-length
 same-length c = search needs

@@ -10,10 +10,10 @@ use Rattle.staging.proofs.stage.Statement.{statement}
 use Rattle.staging.proofs.stage.Tie as tie
 
 abbrev Inv-loop : tie.InvT-loop
-Inv-loop w₀ code slots cnt n₀ s₀ w n s = Through w₀ code slots cnt w n s
+Inv-loop w₀ code room cnt n₀ s₀ w n s = Through w₀ code room cnt w n s
 
 abbrev μ-loop : tie.MeasureT-loop
-μ-loop w₀ code slots cnt n₀ s₀ w n s = mostVertices - s
+μ-loop w₀ code room cnt n₀ s₀ w n s = mostVertices - s
 
 -- where the function begins
 abbrev start : tie.At-loop Inv-loop μ-loop → tie.Start Inv-loop μ-loop
@@ -34,9 +34,11 @@ stage-vertex-requires c κs =
     record {
       vertex = omega (arith, c .before .loop-test .taken);
       transits = transits-as (unpicked-steps (inv .stages .keeps)) (pre .transits);
-      code-small = pre .code-small;
-      count = omega (arith, pre .count, inv .fits);
-      room = omega (arith, pre .count, inv .stages .keeps .len, pre .room);
+      space = record {
+        code-small = pre .space .code-small;
+        count = omega (arith, pre .space .count, inv .fits);
+        there = omega (arith, pre .space .count, inv .stages .keeps .len, pre .space .there);
+      };
     }
 
 same-length : tie.Need-same-length Inv-loop μ-loop
@@ -60,7 +62,7 @@ next-requires-2 : tie.Need-next-requires-2 Inv-loop μ-loop
 next-requires-2 c κs =
     let vertex = c .before .before .before .before in
     let turn = vertex .before .before in
-    (record { row = omega arith; long = omega (arith, len vertex, start (turn .before) .pre .room) }, omega (arith, turn .loop-test .taken))
+    (record { row = omega arith; long = omega (arith, len vertex, start (turn .before) .pre .space .there) }, omega (arith, turn .loop-test .taken))
 
 loop-less : tie.Need-loop-less Inv-loop μ-loop
 loop-less c = omega (arith, c .next2 .ensures .low, c .before .before .before .before .before .before .before .loop-test .taken)

@@ -15,10 +15,10 @@ use Rattle.staging.proofs.stage_singles.Statement.{statement}
 use Rattle.staging.proofs.stage_singles.Tie as tie
 
 abbrev Inv-loop : tie.InvT-loop
-Inv-loop edges w₀ domain code slots cnt n₀ i₀ w n i = Splitting edges w₀ domain code slots cnt w n i
+Inv-loop edges w₀ domain code room cnt n₀ i₀ w n i = Splitting edges w₀ domain code room cnt w n i
 
 abbrev μ-loop : tie.MeasureT-loop
-μ-loop edges w₀ domain code slots cnt n₀ i₀ w n i = length edges - i
+μ-loop edges w₀ domain code room cnt n₀ i₀ w n i = length edges - i
 
 -- where the function begins, and after the copying
 abbrev copied : tie.At-loop Inv-loop μ-loop → tie.After-copy Inv-loop μ-loop
@@ -51,7 +51,7 @@ loop-holds c =
     let copy = c .before .before in
     let pre = copy .before .before .before .before .pre in
     let d = pre .domain in
-    splitting-none (domain-copied (d .most) (copy .copy .ensures) d) (copy .copy .ensures) (pre .count)
+    splitting-none (domain-copied (d .most) (copy .copy .ensures) d) (copy .copy .ensures) (pre .space .count)
 
 mul-s : tie.Need-mul-s Inv-loop μ-loop
 mul-s c = omega (arith, c .loop-test .taken)
@@ -84,9 +84,7 @@ stage-steps-requires c κs =
     let l = len (t .before) in
     record {
       vertex = small t;
-      code-small = pre .code-small;
-      count = t .before .loop .inv .fits;
-      room = omega (arith, pre .room);
+      space = record { code-small = pre .space .code-small; count = t .before .loop .inv .fits; there = omega (arith, pre .space .there) };
     }
 
 same-length : tie.Need-same-length Inv-loop μ-loop
@@ -106,7 +104,7 @@ returns c =
     let end = splitting-ends d (loop .loop .inv) (small t) (x .common .ensures) (s .before .before .if2 .taken) in
     let on = sym (bit .bit .ensures) ∙ x .before .before .if1 .taken in
     splitting-over (pre .domain .most) (copied loop .copy .ensures) (c .if3 .taken)
-    (splitting-both d (loop .loop .inv) (small t) on end (pre .code-small) (s .stage-steps .ensures) (c .if3 .taken))
+    (splitting-both d (loop .loop .inv) (small t) on end (pre .space .code-small) (s .stage-steps .ensures) (c .if3 .taken))
 
 unmark-requires : tie.Need-unmark-requires Inv-loop μ-loop
 unmark-requires c κs =
@@ -134,7 +132,7 @@ loop-again c =
     let end = splitting-ends d inv (small t) (y .2 .ensures) (y .3 .taken) in
     let on = sym b ∙ y .0 .taken in
     rw (y .13, y .14)
-    (splitting-take d inv (small t) on end (pre .code-small) (y .5 .ensures) (pre .small) (t .loop-test .taken) refl (y .8 .left) (y .10 .ensures)))
+    (splitting-take d inv (small t) on end (pre .space .code-small) (y .5 .ensures) (pre .small) (t .loop-test .taken) refl (y .8 .left) (y .10 .ensures)))
     (⊎-elim
     (λ y. rw (y .4, y .5) (splitting-pass d inv (λ e _. splitting-goes-on d inv (small t) (y .2 .ensures) (y .3 .left) e)))
     (λ y. rw (y .1, y .2) (splitting-pass d inv (λ _ o. y .0 .left (b ∙ o)))))

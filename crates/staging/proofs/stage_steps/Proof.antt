@@ -8,10 +8,10 @@ use Rattle.staging.proofs.stage_steps.Statement.{statement}
 use Rattle.staging.proofs.stage_steps.Tie as tie
 
 abbrev Inv-loop : tie.InvT-loop
-Inv-loop w₀ s code slots cnt n₀ i₀ w n i = RowStaged w₀ s code slots cnt w n i
+Inv-loop w₀ s code room cnt n₀ i₀ w n i = RowStaged w₀ s code room cnt w n i
 
 abbrev μ-loop : tie.MeasureT-loop
-μ-loop w₀ s code slots cnt n₀ i₀ w n i = rowNumbers - i
+μ-loop w₀ s code room cnt n₀ i₀ w n i = rowNumbers - i
 
 -- where the function begins, and where a number is staged
 abbrev start : tie.At-loop Inv-loop μ-loop → tie.Start Inv-loop μ-loop
@@ -21,7 +21,7 @@ abbrev turn : tie.After-stage-number Inv-loop μ-loop → tie.At-loop Inv-loop �
 turn c = c .before .before .before
 
 loop-holds : tie.Need-loop-holds Inv-loop μ-loop
-loop-holds c = row-none (c .before .pre .count)
+loop-holds c = row-none (c .before .pre .space .count)
 
 stage-number-requires : tie.Need-stage-number-requires Inv-loop μ-loop
 stage-number-requires c κs =
@@ -30,9 +30,11 @@ stage-number-requires c κs =
     let inv = loop .loop .inv in (
       record {
         vertex = pre .vertex;
-        code-small = pre .code-small;
-        count = omega (arith, inv .fits, pre .count);
-        room = omega (arith, inv .stages .keeps .len, pre .room);
+        space = record {
+          code-small = pre .space .code-small;
+          count = omega (arith, inv .fits, pre .space .count);
+          there = omega (arith, inv .stages .keeps .len, pre .space .there);
+        };
       },
       omega (arith, c .before .loop-test .taken),
     )
@@ -44,13 +46,13 @@ returns : tie.Need-returns Inv-loop μ-loop
 returns c =
     let s = c .before .before .before in
     let pre = start (turn s) .pre in
-    row-over (turn s .loop .inv) (pre .vertex) (pre .code-small) (s .stage-number .ensures) (c .if1 .taken)
+    row-over (turn s .loop .inv) (pre .vertex) (pre .space .code-small) (s .stage-number .ensures) (c .if1 .taken)
 
 loop-again : tie.Need-loop-again Inv-loop μ-loop
 loop-again c =
     let s = c .before .before .before in
     let pre = start (turn s) .pre in
-    row-more (turn s .loop .inv) (pre .vertex) (pre .code-small) (s .stage-number .ensures) (c .if1 .left)
+    row-more (turn s .loop .inv) (pre .vertex) (pre .space .code-small) (s .stage-number .ensures) (c .if1 .left)
 
 same-length-2 : tie.Need-same-length-2 Inv-loop μ-loop
 same-length-2 c = c .before .loop .inv .stages .keeps .len

@@ -13,10 +13,10 @@ use Rattle.staging.proofs.stage_vertex.Statement.{statement}
 use Rattle.staging.proofs.stage_vertex.Tie as tie
 
 abbrev Inv-loop : tie.InvT-loop
-Inv-loop w₀ s code slots cnt n₀ u₀ w n u = Taking w₀ s code slots cnt w n u
+Inv-loop w₀ s code room cnt n₀ u₀ w n u = Taking w₀ s code room cnt w n u
 
 abbrev μ-loop : tie.MeasureT-loop
-μ-loop w₀ s code slots cnt n₀ u₀ w n u = mostVertices - u
+μ-loop w₀ s code room cnt n₀ u₀ w n u = mostVertices - u
 
 -- after the copying, and where the function begins
 abbrev copied : tie.At-loop Inv-loop μ-loop → tie.After-copy Inv-loop μ-loop
@@ -25,19 +25,19 @@ copied c = c .before .before .before .before .before
 abbrev start : tie.At-loop Inv-loop μ-loop → tie.Start Inv-loop μ-loop
 start c = copied c .before .before .before
 
--- there is room for the slots
-room : (c : tie.At-loop Inv-loop μ-loop) → leastWork + start c .args .slots ≤ length (c .loop .w)
-room c = omega (arith, c .loop .inv .stages .keeps .len, copied c .copy .ensures .keeps .len, start c .pre .room)
+-- there is room for `room` entries
+there : (c : tie.At-loop Inv-loop μ-loop) → leastWork + start c .args .room ≤ length (c .loop .w)
+there c = omega (arith, c .loop .inv .stages .keeps .len, copied c .copy .ensures .keeps .len, start c .pre .space .there)
 
 loop-holds : tie.Need-loop-holds Inv-loop μ-loop
 loop-holds c =
     let copy = c .before .before .before .before in
     let pre = copy .before .before .before .pre in
     let transits = transits-as (picked-steps (copy .copy .ensures .keeps)) (pre .transits) in
-    taking-none (pre .vertex) (pre .count) transits (copy .copy .ensures) (c .next .ensures)
+    taking-none (pre .vertex) (pre .space .count) transits (copy .copy .ensures) (c .next .ensures)
 
 add-result : tie.Need-add-result Inv-loop μ-loop
-add-result c = omega (arith, room (c .before .before))
+add-result c = omega (arith, there (c .before .before))
 
 same-length : tie.Need-same-length Inv-loop μ-loop
 same-length c = c .before .before .loop .inv .stages .keeps .len ∙ copied (c .before .before) .copy .ensures .keeps .len
@@ -47,25 +47,25 @@ returns c =
     let loop = c .before .before in
     start-stages
     (copied loop .copy .ensures .keeps)
-    (taking-full (loop .loop .inv) (omega (arith, c .before .loop-test .taken)) (start loop .pre .code-small) refl (c .if1 .taken))
+    (taking-full (loop .loop .inv) (omega (arith, c .before .loop-test .taken)) (start loop .pre .space .code-small) refl (c .if1 .taken))
 
 joined-requires : tie.Need-joined-requires Inv-loop μ-loop
-joined-requires c κs = let pre = start (c .before .before) .pre in (pre .vertex, (omega (arith, c .before .loop-test .taken), pre .code-small))
+joined-requires c κs = let pre = start (c .before .before) .pre in (pre .vertex, (omega (arith, c .before .loop-test .taken), pre .space .code-small))
 
 add-w : tie.Need-add-w Inv-loop μ-loop
-add-w c = omega (arith, room (c .before .before .before))
+add-w c = omega (arith, there (c .before .before .before))
 
 mul-w : tie.Need-mul-w Inv-loop μ-loop
-mul-w c = omega (arith, room (c .before .before .before))
+mul-w c = omega (arith, there (c .before .before .before))
 
 slice-write-w : tie.Need-slice-write-w Inv-loop μ-loop
-slice-write-w c = omega (arith, room (c .before .before .before))
+slice-write-w c = omega (arith, there (c .before .before .before))
 
 add-n : tie.Need-add-n Inv-loop μ-loop
-add-n c = omega (arith, room (c .before .before .before))
+add-n c = omega (arith, there (c .before .before .before))
 
 -- a slot is free, and the entry of u is staged in it
-free : (c : tie.After-joined Inv-loop μ-loop) → c .before .before .before .loop .n < start (c .before .before .before) .args .slots
+free : (c : tie.After-joined Inv-loop μ-loop) → c .before .before .before .loop .n < start (c .before .before .before) .args .room
 free c = omega (arith, c .before .if1 .left, c .before .before .before .loop .inv .fits)
 
 abbrev put : tie.After-joined Inv-loop μ-loop → List ℕ
@@ -74,7 +74,7 @@ put c = let loop = c .before .before .before in set (loop .loop .w) (leastWork +
 subtract-requires : tie.Need-subtract-requires Inv-loop μ-loop
 subtract-requires c κs =
     let turn = c .before .before .before .before in
-    let l = room (turn .before) in
+    let l = there (turn .before) in
     let start-row = start (turn .before) .pre .vertex in
     let end-row = turn .loop-test .taken in (
       record { row = omega arith; long = simp length-set (omega arith) },
@@ -89,16 +89,16 @@ cleared c =
     let turn = a .before .before in
     let inv = turn .before .loop .inv in
     let below : turn .before .loop .u < mostVertices = omega (arith, turn .loop-test .taken) in
-    let small = start (turn .before) .pre .code-small in
+    let small = start (turn .before) .pre .space .code-small in
     ⊎-elim
-    (λ x. rw (x .5) (clear-less inv below small (a .joined .ensures) (room (turn .before)) (free a) (omega (arith, x .0 .taken)) (x .2 .ensures)))
-    (λ x. rw (x .1) (clear-late inv below small (a .joined .ensures) (room (turn .before)) (free a) (omega (arith, x .0 .left))))
+    (λ x. rw (x .5) (clear-less inv below small (a .joined .ensures) (there (turn .before)) (free a) (omega (arith, x .0 .taken)) (x .2 .ensures)))
+    (λ x. rw (x .1) (clear-late inv below small (a .joined .ensures) (there (turn .before)) (free a) (omega (arith, x .0 .left))))
     (c .if2 .came)
 
 next-requires-2 : tie.Need-next-requires-2 Inv-loop μ-loop
 next-requires-2 c κs =
     let turn = c .before .before .before .before in
-    let l = room (turn .before) in
+    let l = there (turn .before) in
     let at = turn .loop-test .taken in
     (keeps-has (cleared (c .before) .keeps) (record { row = omega arith; long = simp length-set (omega arith) }), omega arith)
 
@@ -114,9 +114,9 @@ loop-again c =
     taking-more
     (loop .loop .inv)
     (omega (arith, turn .loop-test .taken))
-    (pre .code-small)
+    (pre .space .code-small)
     (a .joined .ensures)
-    (room loop)
+    (there loop)
     (free a)
     (cleared (c .before .before))
     (transits-as (picked-steps (copied loop .copy .ensures .keeps)) (pre .transits))

@@ -6,7 +6,8 @@ use lib.ListN.{length, getD}
 use Rattle.model.specs.Limits.{mostLabel}
 use Rattle.rows.specs.Region.{savedRows}
 use Rattle.rows.specs.Rows.{KeepsRows}
-use Rattle.steps.proofs.Turning.{halves-keep, label-range, Turning, ends-fillable, turning-last, turning-range, turning-prependable, turning-more, turning-all, no-label, half-empty}
+use Rattle.steps.proofs.Turning.{halves-keep, half-empty, label-range, ends-fillable, no-label}
+use Rattle.steps.proofs.Turning.{Turning, turning-last, turning-range, turning-prependable, turning-more, turning-all}
 use Rattle.steps.proofs.fill_parent.Statement.{statement}
 use Rattle.steps.proofs.fill_parent.Tie as tie
 
@@ -150,8 +151,8 @@ prepend-requires c κs =
     let turn = first .before .before in
     let loop = turn .before in
     let pre = start loop .pre in
-    turning-prependable (loop .loop .inv .0) (pre .grouped) (pre .word) (first .labelled2 .ensures) (behind .labelled3 .ensures) (front turn) refl (pre .sources) (since loop)
-    (omega (arith, loop .loop .inv .1, pre .room))
+    turning-prependable (loop .loop .inv .0) (pre .grouped) (pre .word) (first .labelled2 .ensures) (behind .labelled3 .ensures)
+    (front turn) refl (pre .sources) (since loop) (omega (arith, loop .loop .inv .1, pre .room))
 
 sub-from-2 : tie.Need-sub-from-2 Inv-loop μ-loop
 sub-from-2 c = omega (arith, c .before .before .before .before .before .before .before .before .before .before .before .loop .inv .0 .half)

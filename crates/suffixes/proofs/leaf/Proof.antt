@@ -11,14 +11,20 @@ use Rattle.model.specs.Limits.{mostLongest}
 use Rattle.model.specs.Patterns.{Keyed, code as codeOf}
 use Rattle.model.specs.Computed.Patterns.{own?}
 use Rattle.model.proofs.Patterns.{keyed-up}
+use Rattle.edges.specs.Grouped.{section}
+use Rattle.steps.specs.Filling.{Gathers}
 use Rattle.suffixes.specs.Suffixes.{wordOf}
-use Rattle.suffixes.proofs.Leafing.{slots-rise, slots-most, gatherable, gathered-fit, outgoing, leaf-empty, part-word, keyed, leaf-folds, pattern-stageable, leaf-stages}
+use Rattle.suffixes.proofs.Leafing.{of-label, gatherable, gathered-fit, outgoing, part-word, keyed, pattern-stageable}
+use Rattle.suffixes.proofs.Leafing.{leaf-empty, leaf-folds, leaf-stages}
 use Rattle.suffixes.proofs.leaf.Statement.{statement}
 use Rattle.suffixes.proofs.leaf.Tie as tie
 
 -- where the function begins, and after each call
+abbrev begin : tie.After-labelled → tie.Start
+begin c = c .before .before .before .before .before
+
 abbrev start : tie.After-gather → tie.Start
-start c = c .before .before .before .before .before .before .before .before .before .before
+start c = begin (c .before .before .before)
 
 abbrev gathered : tie.After-sources → tie.After-gather
 gathered c = c .before .before .before .before .before
@@ -50,39 +56,26 @@ add-row-2 c =
     let pre = c .before .before .before .before .pre in
     omega (arith, pre .0 .chosen .more, pre .0 .chosen .most, pre .1)
 
-shared-slice-read-gather : tie.Need-shared-slice-read-gather
-shared-slice-read-gather c = let long = c .before .before .before .before .before .pre .0 .grouped .long in search needs
-
-shared-slice-read-gather-2 : tie.Need-shared-slice-read-gather-2
-shared-slice-read-gather-2 c = let long = c .before .before .before .before .before .before .pre .0 .grouped .long in search needs
-
-sub-gather : tie.Need-sub-gather
-sub-gather c =
-    let pre = c .before .before .before .before .before .before .pre in
-    slots-rise (pre .0 .grouped) (omega (arith, pre .1, pre .0 .chosen .more, pre .0 .chosen .most))
-
-part-gather-start : tie.Need-part-gather-start
-part-gather-start c = let h = sub-gather c in search needs
-
-part-gather-end : tie.Need-part-gather-end
-part-gather-end c =
-    let pre = c .before .before .before .before .before .before .pre in
-    slots-most (pre .0 .grouped) (omega (arith, pre .1, pre .0 .chosen .more, pre .0 .chosen .most))
-
-mul-gather-3 : tie.Need-mul-gather-3
-mul-gather-3 c = omega (arith, sub-gather c, part-gather-end c, c .before .before .before .before .before .before .good .0)
-
 gather-requires : tie.Need-gather-requires
 gather-requires c κs =
-    let pre = c .before .before .before .before .before .before .before .before .before .pre in
-    gatherable (pre .0) (omega (arith, pre .1, pre .0 .chosen .more, pre .0 .chosen .most))
+    let part = c .before .before in
+    let pre = begin part .pre in
+    rw (of-label (pre .0) (pre .1) (part .labelled .ensures) (omega arith)) (gatherable (pre .0) (pre .1))
 
--- the edges gathered have room
+-- those gathered from the edges of the label
+lists : (c : tie.After-gather)
+    → let a = start c .args in
+    Gathers (section (a .edges .now) (a .slots .now) (a .c)) (a .w .now) (a .starts) (c .gather .last .1 .1 .1 .0) (c .gather .result)
+lists c =
+    let part = c .before .before .before in
+    let pre = begin part .pre in
+    rw (of-label (pre .0) (pre .1) (part .labelled .ensures) (omega arith)) at (c .gather .ensures)
+
+-- they have room
 fits : (c : tie.After-gather) → c .gather .result ≤ length (c .gather .last .1 .1 .1 .0)
 fits c =
     let pre = start c .pre in
-    let fit = gathered-fit (pre .0) (omega (arith, pre .1, pre .0 .chosen .more, pre .0 .chosen .most)) (c .gather .ensures) in
-    omega (arith, fit, c .gather .kept .1 .1 .1 .0)
+    omega (arith, gathered-fit (pre .0) (pre .1) (lists c), c .gather .kept .1 .1 .1 .0)
 
 slice-reshare-prefix-sources : tie.Need-slice-reshare-prefix-sources
 slice-reshare-prefix-sources c = fits (c .before .before)
@@ -94,7 +87,7 @@ sources-requires : tie.Need-sources-requires
 sources-requires c κs =
     let gathered = c .before .before .before .before in
     let pre = start gathered .pre in (
-      outgoing (pre .0) (omega (arith, pre .1, pre .0 .chosen .more, pre .0 .chosen .most)) (gathered .gather .ensures),
+      outgoing (pre .0) (pre .1) (lists gathered),
       record { row = omega (arith, pre .1, pre .0 .chosen .more, pre .0 .chosen .most); long = omega (arith, pre .0 .there) },
     )
 
@@ -102,7 +95,7 @@ returns : tie.Need-returns
 returns c =
     let sourced = c .before .before .before in
     let pre = start (gathered sourced) .pre in
-    leaf-empty (pre .0) (pre .1) (gathered sourced .gather .ensures) (sourced .sources .ensures) (c .if1 .taken)
+    leaf-empty (pre .0) (pre .1) (lists (gathered sourced)) (sourced .sources .ensures) (c .if1 .taken)
 
 child-requires : tie.Need-child-requires
 child-requires c κs =
@@ -126,7 +119,7 @@ stage-requires c κs =
     let code = c .before .before in
     let child = code .before .before .before .before .before .before .before in
     let pre = begun child .pre in
-    pattern-stageable (pre .0) (pre .1) (gathered (sourced child) .gather .ensures) (sourced child .sources .ensures)
+    pattern-stageable (pre .0) (pre .1) (lists (gathered (sourced child))) (sourced child .sources .ensures)
     (code .code .ensures ∙ ap codeOf (word child))
 
 returns-2 : tie.Need-returns-2
@@ -137,14 +130,14 @@ returns-2 c =
     let child = own .before .before .before in
     let pre = begun child .pre in
     let is = ap own? (sym (word child)) ∙ (sym (own .is-own .ensures) ∙ code .before .before .before .if2 .taken) in
-    leaf-stages (pre .0) (pre .1) (gathered (sourced child) .gather .ensures) (sourced child .sources .ensures)
+    leaf-stages (pre .0) (pre .1) (lists (gathered (sourced child))) (sourced child .sources .ensures)
     (code .code .ensures ∙ ap codeOf (word child)) is (staged .stage .ensures)
 
 returns-3 : tie.Need-returns-3
 returns-3 c =
     let child = c .before .before .before .before in
     let pre = begun child .pre in
-    leaf-folds (pre .0) (pre .1) (gathered (sourced child) .gather .ensures) (sourced child .sources .ensures)
+    leaf-folds (pre .0) (pre .1) (lists (gathered (sourced child))) (sourced child .sources .ensures)
     (ap own? (sym (word child)) ∙ (sym (c .before .is-own .ensures) ∙ c .if2 .left))
 
 pub leaf-spec : {M : Type 1} → statement M
@@ -155,14 +148,7 @@ leaf-spec =
     add-row
     add-row-2
     (λ c. search needs)
-    shared-slice-read-gather
-    (λ c. search needs)
-    (λ c. search needs)
-    shared-slice-read-gather-2
-    mul-gather-3
-    sub-gather
-    part-gather-start
-    part-gather-end
+    (λ c κs. search needs)
     gather-requires
     slice-reshare-prefix-sources
     slice-aggregate-sources

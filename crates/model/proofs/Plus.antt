@@ -1,16 +1,19 @@
 -- Laws of one step or more.
 use mathlib.Core.Logic.{_↔_}
 use Prim.Native.Nat.{ℕ}
 use Rattle.model.specs.Build.Hubs.{Plus, one, more, Onward}
 
 pub plus-then : {R : ℕ → ℕ → Type 0} {a m b : ℕ} → Plus R a m → Plus R m b → Plus R a b
 plus-then (one s) r = more s r
 plus-then (more s q) r = more s (plus-then q r)
 
+pub first-step : {R : ℕ → ℕ → Type 0} {a b : ℕ} → Plus R a b → (m : ℕ) × R a m
+first-step (one s) = (_, s)
+first-step (more s q) = (_, s)
+
 -- P holds of every vertex that steps anywhere
 pub plus-from : {R : ℕ → ℕ → Type 0} (P : ℕ → Type 0) → ((a b : ℕ) → R a b → P a) → {a b : ℕ} → Plus R a b → P a
-plus-from P f (one s) = f _ _ s
-plus-from P f (more s q) = f _ _ s
+plus-from P f q = f _ _ (first-step q .1)
 
 -- a second step follows a step from a if one step or more lead from a to a vertex that steps anywhere
 pub plus-onward : {R : ℕ → ℕ → Type 0} {a m b : ℕ} → Plus R a m → Plus R m b → Onward R a
