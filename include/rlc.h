@@ -39,8 +39,21 @@
 extern "C" {
 #endif
 
-/* How many numbers a record has. (RLC_RECORD is a reply, not a length.) */
+/* This interface: its first number times 100 and its second. A program written for another first number has to be changed
+ * (docs/CHANGES.md says where). */
+#define RLC_VERSION 400
+
+/* Sizes: numbers of a record; numbers of work memory to build an index in so many slots (with 0 slots: for a query, a search or a
+ * route); bytes of a card with so many edges. */
 #define RLC_RECORD_N 10
+#define RLC_WORK_N(slots) (4096 + (slots))
+#define RLC_CARD_N(edges) (9 + 3 * (edges))
+
+/* The parts of a 64-bit reply, of rlc_search, rlc_route and rlc_write_card: yes, no, spent or the refusal; the levels built;
+ * the edges of a route or the bytes of a card. */
+#define RLC_REPLY(x) ((uint32_t)((x) >> 32))
+#define RLC_LEVELS(x) ((uint32_t)(x))
+#define RLC_LENGTH(x) ((uint32_t)(x))
 
 /* Replies. */
 enum {
@@ -48,7 +61,7 @@ enum {
     RLC_NO = 0,       /* of query, search and route */
     RLC_YES = 100,
     RLC_SPENT = 101,   /* of search: neither yes nor no within the level limit */
-    RLC_RECORD = 255   /* the record lent does not have RLC_RECORD_N numbers; nothing is touched */
+    RLC_BAD_RECORD = 255 /* the record lent does not have RLC_RECORD_N numbers; nothing is touched */
 };
 
 /* Refusals. The first that applies, in the order given at each call, is returned. */
