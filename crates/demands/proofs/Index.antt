@@ -83,6 +83,10 @@ module _ (g : Graph) (order : List ℕ) (small : Small g) (slots : ℕ) where
   pub whole-passes : indexMemory? (g .vertices) (g .longest) (filled slots (entries g order)) ≡ true
   whole-passes = memory-passes (g .vertices) (g .longest) slots (entries g order) (entries-rise g order small) (entry-valid g order small)
 
+  -- its entries stand in it, and nothing else
+  pub whole-stands : standing (filled slots (entries g order)) ≡ entries g order
+  whole-stands = standing-filled slots (entries g order) (λ x m. entry-some (g .vertices) (g .longest) x (entry-valid g order small x m))
+
   -- a question by a pattern of the index is answered yes if a walk runs it, and only then
   pub answer-right : {l : List ℕ} {s t : ℕ} → Asked g l s t → Tests (answers? (g .vertices) (filled slots (entries g order)) l s t) (Runs g l s t)
   answer-right {l} {s} {t} q =

@@ -1,9 +1,9 @@
 -- What is printed after a card reading: the listing of what it leaves, or the refusal.
 use mathlib.Core.Path.{_≡_, refl, sym, ap, _∙_}
 use mathlib.Core.List.{List}
-use Prim.Native.Nat.{ℕ, _≤_}
+use Prim.Native.Nat.{ℕ}
 use native.Mathlib.Omega.{arith}
-use lib.ListN.{length, take, drop, length-append}
+use lib.ListN.{length, take}
 use borrow.Author.Tests.{ne-eqb}
 use Rattle.model.specs.Edges.{standing}
 use Rattle.model.specs.Replies.{numberOf}
@@ -42,7 +42,3 @@ module _ (card : List ℕ) {r : Changed} {edges index work out out′ : List ℕ
       → Puts out 0 (refusedLine n) out′ end → Puts out 0 (printed card) out′ end
   unfolding printed
   puts-refused e p puts = rw (text-refused m e) (rw p at puts)
-
--- text put at the front ends within the bytes lent
-pub ends-within : {out text out′ : List ℕ} {r : ℕ} → Puts out 0 text out′ r → r ≤ length out′
-ends-within {out} {text} {out′} {r} p = omega (arith, p .end, ap length (p .bytes), length-append text (drop r out))

@@ -9,12 +9,12 @@ use borrow.Author.Tests.{lt-ltb, le-ltb}
 use lib.Dec.{ltb}
 use lib.ListN.{length, take, drop, getD, set, length-append, take-append-drop}
 use lib.Seq.{length-take-le, take-length, take-all, take-at, drop-at, drop-drop, set-split, take-suc}
-use Rattle.model.specs.Limits.{mostLongest, digitUnit, sideUnit}
+use Rattle.model.specs.Limits.{mostLongest, digitUnit, sideUnit, leastWork}
 use Rattle.model.specs.Computed.Lists.{spread}
 use Rattle.model.specs.Computed.Query.{ownerOf, hubOf, codeOf}
 use Rattle.model.proofs.Lists.{spread-append, part-all, part-last}
 use Rattle.printing.specs.Puts.{Puts}
-use Rattle.printing.specs.Lines.{numeral, number, labels, space, newline, outWord, inWord, sideLine, entryLine, placesWord, longestWord, legsWord, entriesWord, headerLine, numberLine, refusedWord, refusedLine, listing}
+use Rattle.printing.specs.Lines.{numeral, number, labels, space, newline, outWord, inWord, sideLine, entryLine, placesWord, longestWord, legsWord, entriesWord, counts, headerLine, numberLine, refusedWord, refusedLine, listing, indexWord, workWord, bytesWord, bytesOf, sizeLine, overWord, entriesEnd, overLine}
 
 -- what is spread of one element more
 spread-snoc : (f : ℕ → List ℕ) (l : List ℕ) (x : ℕ) → spread f (l ++ (x ∷ [])) ≡ spread f l ++ f x
@@ -59,6 +59,10 @@ puts-then {out} {s} {out₁} {t} {out₂} {at} {a} {b} inside p q = record { end
 
     whole : out₂ ≡ take at out ++ ((s ++ t) ++ drop b out)
     whole = q .bytes ∙ rw (before, behind) (simp append-assoc)
+
+-- text put at the front ends within the bytes lent
+pub ends-within : {out text out′ : List ℕ} {r : ℕ} → Puts out 0 text out′ r → r ≤ length out′
+ends-within {out} {text} {out′} {r} p = omega (arith, p .end, ap length (p .bytes), length-append text (drop r out))
 
 pub numeral-length : (b most n : ℕ) → length (numeral b most n) ≤ most
 unfolding numeral
@@ -129,13 +133,29 @@ pub entry-is : (e : ℕ) → entryLine e ≡ (((sideLine e ++ (space ++ number (
 unfolding entryLine
 entry-is e = simp append-assoc
 
-nested : (a b c d e f g h i : List ℕ) → a ++ (b ++ (c ++ (d ++ (e ++ (f ++ (g ++ (h ++ i))))))) ≡ ((((a ++ b) ++ (c ++ d)) ++ (e ++ f)) ++ (g ++ h)) ++ i
-nested a b c d e f g h i = simp append-assoc
+nested : (a b c d e f g h : List ℕ) → a ++ (b ++ (c ++ (d ++ (e ++ (f ++ (g ++ h)))))) ≡ (((a ++ b) ++ (c ++ d)) ++ (e ++ f)) ++ (g ++ h)
+nested a b c d e f g h = simp append-assoc
 
-pub header-is : (v k m n : ℕ) → headerLine v k m n
-    ≡ ((((placesWord ++ number v) ++ (longestWord ++ number k)) ++ (legsWord ++ number m)) ++ (entriesWord ++ number n)) ++ newline
+pub counts-is : (v k m n : ℕ) → counts v k m n
+    ≡ (((placesWord ++ number v) ++ (longestWord ++ number k)) ++ (legsWord ++ number m)) ++ (entriesWord ++ number n)
+unfolding counts
+counts-is v k m n = nested placesWord (number v) longestWord (number k) legsWord (number m) entriesWord (number n)
+
+pub header-is : (v k m n : ℕ) → headerLine v k m n ≡ counts v k m n ++ newline
 unfolding headerLine
-header-is v k m n = nested placesWord (number v) longestWord (number k) legsWord (number m) entriesWord (number n) newline
+header-is v k m n = refl
+
+sized-nested : (a b c d e f : List ℕ) → a ++ (b ++ (c ++ (d ++ (e ++ f)))) ≡ ((a ++ (b ++ c)) ++ (d ++ e)) ++ f
+sized-nested a b c d e f = simp append-assoc
+
+pub sizes-is : (v k m n : ℕ) → sizeLine v k m n
+    ≡ ((counts v k m n ++ (indexWord ++ number (bytesOf n))) ++ (workWord ++ number (bytesOf (leastWork + n)))) ++ bytesWord
+unfolding sizeLine
+sizes-is v k m n = sized-nested (counts v k m n) indexWord (number (bytesOf n)) workWord (number (bytesOf (leastWork + n))) bytesWord
+
+pub over-is : (n : ℕ) → overLine n ≡ (overWord ++ number n) ++ entriesEnd
+unfolding overLine
+over-is n = simp append-assoc
 
 pub entry-length : (e : ℕ) → length (entryLine e) ≤ 32
 entry-length e =
@@ -146,15 +166,18 @@ entry-length e =
     (omega
     (arith, length-append (((s ++ h) ++ space) ++ k) newline, length-append ((s ++ h) ++ space) k, length-append (s ++ h) space, length-append s h, side-length e, field-length space (hubOf e), numeral-length digitUnit mostLongest (codeOf e)))
 
-pub header-length : (v k m n : ℕ) → length (headerLine v k m n) ≤ 72
-header-length v k m n =
+pub counts-length : (v k m n : ℕ) → length (counts v k m n) ≤ 71
+counts-length v k m n =
     let p = placesWord ++ number v in
     let q = longestWord ++ number k in
     let r = legsWord ++ number m in
     let s = entriesWord ++ number n in
-    rw (header-is v k m n)
+    rw (counts-is v k m n)
     (omega
-    (arith, length-append (((p ++ q) ++ r) ++ s) newline, length-append ((p ++ q) ++ r) s, length-append (p ++ q) r, length-append p q, field-length placesWord v, field-length longestWord k, field-length legsWord m, field-length entriesWord n))
+    (arith, length-append ((p ++ q) ++ r) s, length-append (p ++ q) r, length-append p q, field-length placesWord v, field-length longestWord k, field-length legsWord m, field-length entriesWord n))
+
+pub header-length : (v k m n : ℕ) → length (headerLine v k m n) ≤ 72
+header-length v k m n = rw (header-is v k m n) (omega (arith, length-append (counts v k m n) newline, counts-length v k m n))
 
 pub listing-is : (v k m : ℕ) (l : List ℕ) → listing v k m l ≡ headerLine v k m (length l) ++ spread entryLine l
 unfolding listing

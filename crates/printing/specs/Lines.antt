@@ -1,10 +1,10 @@
--- What the programs print, as bytes: the listing (document 01, "The layout card"), and lines of one number (document 02, One).
+-- What the programs print, as bytes: the listing (document 01, "The layout card"), lines of one number (document 02, One), and what a layout needs.
 use mathlib.Core.Bool.{cond}
 use mathlib.Core.List.{List, [], _∷_, _++_}
-use Prim.Native.Nat.{ℕ, zero, suc, _+_, _/_, _%_}
+use Prim.Native.Nat.{ℕ, zero, suc, _+_, _*_, _/_, _%_}
 use lib.Dec.{ltb}
 use lib.ListN.{length}
-use Rattle.model.specs.Limits.{mostLongest, digitUnit, sideUnit}
+use Rattle.model.specs.Limits.{mostLongest, digitUnit, sideUnit, leastWork}
 use Rattle.model.specs.Computed.Lists.{spread}
 use Rattle.model.specs.Computed.Query.{ownerOf, hubOf, codeOf}
 
@@ -68,9 +68,13 @@ abbrev pub refusedWord : List ℕ
 refusedWord = 114 ∷ 101 ∷ 102 ∷ 117 ∷ 115 ∷ 101 ∷ 100 ∷ 32 ∷ []
 
 -- "places 3 longest 2 legs 3 entries 5"
+unfoldable pub counts : (vertices longest edges entries : ℕ) → List ℕ
+counts vertices longest edges entries =
+    placesWord ++ (number vertices ++ (longestWord ++ (number longest ++ (legsWord ++ (number edges ++ (entriesWord ++ number entries))))))
+
+-- the same as a line
 unfoldable pub headerLine : (vertices longest edges entries : ℕ) → List ℕ
-headerLine vertices longest edges entries =
-    placesWord ++ (number vertices ++ (longestWord ++ (number longest ++ (legsWord ++ (number edges ++ (entriesWord ++ (number entries ++ newline)))))))
+headerLine vertices longest edges entries = counts vertices longest edges entries ++ newline
 
 -- "A refused card prints one line, `refused` and its number"
 unfoldable pub refusedLine : ℕ → List ℕ
@@ -79,3 +83,39 @@ refusedLine n = refusedWord ++ numberLine n
 -- "After the header comes one line for each entry in slot order": the whole output
 unfoldable pub listing : (vertices longest edges : ℕ) → List ℕ → List ℕ
 listing vertices longest edges entries = headerLine vertices longest edges (length entries) ++ spread entryLine entries
+
+-- ---- what a layout needs
+
+-- " index "
+abbrev pub indexWord : List ℕ
+indexWord = 32 ∷ 105 ∷ 110 ∷ 100 ∷ 101 ∷ 120 ∷ 32 ∷ []
+
+-- " bytes work "
+abbrev pub workWord : List ℕ
+workWord = 32 ∷ 98 ∷ 121 ∷ 116 ∷ 101 ∷ 115 ∷ 32 ∷ 119 ∷ 111 ∷ 114 ∷ 107 ∷ 32 ∷ []
+
+-- " bytes", and the line ends
+abbrev pub bytesWord : List ℕ
+bytesWord = 32 ∷ 98 ∷ 121 ∷ 116 ∷ 101 ∷ 115 ∷ 10 ∷ []
+
+-- the bytes of so many 64-bit numbers
+abbrev pub bytesOf : ℕ → ℕ
+bytesOf n = n * 8
+
+-- "places 3 longest 2 legs 3 entries 5 index 40 bytes work 32808 bytes": index memory has a slot for each entry, and work memory "4,096 numbers, plus
+-- one for each index slot where an index is built"
+unfoldable pub sizeLine : (vertices longest edges entries : ℕ) → List ℕ
+sizeLine vertices longest edges entries =
+    counts vertices longest edges entries ++ (indexWord ++ (number (bytesOf entries) ++ (workWord ++ (number (bytesOf (leastWork + entries)) ++ bytesWord))))
+
+-- " entries", and the line ends
+abbrev pub entriesEnd : List ℕ
+entriesEnd = 32 ∷ 101 ∷ 110 ∷ 116 ∷ 114 ∷ 105 ∷ 101 ∷ 115 ∷ 10 ∷ []
+
+-- "over "
+abbrev pub overWord : List ℕ
+overWord = 111 ∷ 118 ∷ 101 ∷ 114 ∷ 32 ∷ []
+
+-- "over 262144 entries"
+unfoldable pub overLine : ℕ → List ℕ
+overLine n = overWord ++ (number n ++ entriesEnd)

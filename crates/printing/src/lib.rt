@@ -1,13 +1,14 @@
-// The lines that the programs print, as bytes in lent memory: entries, the header, a refusal, and numbers. Each function writes from `at` on, leaves
+// The lines that the programs print, as bytes in lent memory: entries, the header, a refusal, numbers, and what a layout needs. Each function writes from `at` on, leaves
 // all other bytes as they were, and returns where its text ends.
 use model::HUB_UNIT;
+use model::LEAST_WORK;
 use model::MOST_LONGEST;
 use model::OWNER_UNIT;
 use model::SIDE_UNIT;
 ghost use Prim.Native.Nat.{_+_, _*_, _^_, _≤_, _<_};
 ghost use mathlib.Core.List.{_++_, _∷_, []};
 ghost use lib.ListN.{length};
-ghost use Rattle.model.specs.Limits.{digitUnit};
+ghost use Rattle.model.specs.Limits.{digitUnit, leastWork};
 ghost use Rattle.model.specs.Computed.Lists.{spread};
 ghost use Rattle.printing.specs.Puts.{Puts};
 ghost use Rattle.printing.specs.Lines.{
@@ -15,16 +16,23 @@ ghost use Rattle.printing.specs.Lines.{
   number,
   sideLine,
   entryLine,
+  counts,
   headerLine,
   numberLine,
   refusedLine,
   listing,
+  bytesOf,
+  sizeLine,
+  overLine,
 };
 
 // The model's numbers, in the width of what is printed.
 const MOST_VERTICES: u64 = model::MOST_VERTICES as u64;
 
 const DIGIT_UNIT: u32 = model::DIGIT_UNIT as u32;
+
+// A slot of index memory and a number of work memory have 64 bits.
+const SLOT_BYTES: u32 = 8;
 
 // One byte.
 fn put(out: &mut [u8], at: usize, byte: u8) -> usize
@@ -111,6 +119,24 @@ pub fn put_entries(out: &mut [u8], at: usize, entries: &[u64]) -> usize
     next
 }
 
+// What the header line says: places, longest pattern, legs, entries.
+fn put_counts(
+    out: &mut [u8],
+    at: usize,
+    vertices: u32,
+    longest: u32,
+    edges: u32,
+    entries: u32,
+) -> usize
+    requires { ⌜ at + 71 ≤ length (now out) ⌝ }
+    ensures { λ r. ⌜ Puts (now (out .entry)) at (counts vertices longest edges entries) (now (out .exit)) r ⌝ }
+{
+    let places = put_field(out, at, b"places ", vertices);
+    let k = put_field(out, places, b" longest ", longest);
+    let legs = put_field(out, k, b" legs ", edges);
+    put_field(out, legs, b" entries ", entries)
+}
+
 // The header line.
 pub fn put_header(
     out: &mut [u8],
@@ -123,11 +149,8 @@ pub fn put_header(
     requires { ⌜ at + 72 ≤ length (now out) ⌝ }
     ensures { λ r. ⌜ Puts (now (out .entry)) at (headerLine vertices longest edges entries) (now (out .exit)) r ⌝ }
 {
-    let places = put_field(out, at, b"places ", vertices);
-    let k = put_field(out, places, b" longest ", longest);
-    let legs = put_field(out, k, b" legs ", edges);
-    let count = put_field(out, legs, b" entries ", entries);
-    put(out, count, b'\n')
+    let end = put_counts(out, at, vertices, longest, edges, entries);
+    put(out, end, b'\n')
 }
 
 // A line with a number alone.
@@ -161,4 +184,36 @@ pub fn put_listing(
 {
     let header = put_header(out, 0, vertices, longest, edges, entries.len() as u32);
     put_entries(out, header, entries)
+}
+
+// The line of a layout that needs so many entries: what the header line says, and the bytes of index and work memory.
+pub fn put_sizes(
+    out: &mut [u8],
+    at: usize,
+    vertices: u32,
+    longest: u32,
+    edges: u32,
+    entries: u32,
+) -> usize
+    requires { ⌜ (bytesOf (leastWork + entries) < 2 ^ 32) × (at + 117 ≤ length (now out)) ⌝ }
+    ensures { λ r. ⌜ Puts (now (out .entry)) at (sizeLine vertices longest edges entries) (now (out .exit)) r ⌝ }
+{
+    let counts = put_counts(out, at, vertices, longest, edges, entries);
+    let index = put_field(out, counts, b" index ", entries * SLOT_BYTES);
+    let work = put_field(
+        out,
+        index,
+        b" bytes work ",
+        (LEAST_WORK as u32 + entries) * SLOT_BYTES,
+    );
+    put_text(out, work, b" bytes\n")
+}
+
+// The line of a layout that needs more entries than so many.
+pub fn put_over(out: &mut [u8], at: usize, slots: u32) -> usize
+    requires { ⌜ at + 24 ≤ length (now out) ⌝ }
+    ensures { λ r. ⌜ Puts (now (out .entry)) at (overLine slots) (now (out .exit)) r ⌝ }
+{
+    let number = put_field(out, at, b"over ", slots);
+    put_text(out, number, b" entries\n")
 }
