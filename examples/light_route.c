@@ -7,23 +7,22 @@
  * the destination has a double circle. A vertex without edges is left out.
  *
  * Exit status: 0 a route, 1 no route, 2 refused by the library, 64 wrong usage, 66 card not read, 74 output not written. */
+#include "input.h"
+#include "refusals.h"
 #include "rlc.h"
 
-#include <ctype.h>
-#include <errno.h>
 #include <stdio.h>
-#include <stdlib.h>
 
 enum {
-    EDGES = 1024,         /* slots of edge memory */
-    WALK = 1024,          /* slots of walk memory: enough for every route */
-    INDEX = 1 << 18,      /* slots of index memory; the station fills 269. A card refused with 13 (index slots) needs more. */
-    WORK = 4096 + INDEX,  /* numbers of work memory */
-    CARD = 9 + 3 * EDGES, /* bytes of the longest card */
-    PATTERN = 8           /* labels taken; the library refuses a pattern longer than the layout's k, which is at most 4 */
+    EDGES = 1024,             /* slots of edge memory */
+    WALK = 1024,              /* slots of walk memory: enough for every route */
+    INDEX = 1 << 18,          /* slots of index memory; the station fills 269. A card refused with 13 (index slots) needs more. */
+    WORK = RLC_WORK_N(INDEX), /* numbers of work memory */
+    CARD = RLC_CARD_N(EDGES), /* bytes of the longest card */
+    PATTERN = 8               /* labels taken; the library refuses a pattern longer than the layout's k, which is at most 4 */
 };
 
-enum { ROUTE = 0, NO_ROUTE = 1, REFUSED = 2, USAGE = 64, NO_INPUT = 66, NO_OUTPUT = 74 };
+enum { ROUTE = 0, NO_ROUTE = 1, USAGE = 64, NO_INPUT = 66, NO_OUTPUT = 74 };
 
 struct question {
     uint32_t start, destination;
@@ -33,39 +32,10 @@ struct question {
 
 static uint32_t record[RLC_RECORD_N], edges[EDGES], walk[WALK];
 static uint64_t index_memory[INDEX], work[WORK];
-static uint8_t card[CARD + 1]; /* a byte more than the longest, so that a file too long is refused and not cut */
+static uint8_t card[CARD + 1]; /* a byte more than the longest, as read_file asks */
 
 /* By label, 1 to 8. */
 static const char *const colours[] = {"", "#0072b2", "#d55e00", "#009e73", "#cc79a7", "#000000", "#e69f00", "#56b4e9", "#999999"};
-
-static const char *const refusals[] = {
-    [RLC_VERTICES] = "vertices",           [RLC_LONGEST] = "longest",
-    [RLC_EDGE_MEMORY] = "edge memory",     [RLC_WORK_MEMORY] = "work memory",
-    [RLC_EDGE_END] = "edge end",           [RLC_EDGE_LABEL] = "edge label",
-    [RLC_EDGE_PRESENT] = "edge present",   [RLC_EDGE_ABSENT] = "edge absent",
-    [RLC_EDGE_SLOTS] = "edge slots",       [RLC_QUERY_END] = "query end",
-    [RLC_QUERY_PATTERN] = "query pattern", [RLC_INDEX_MEMORY] = "index memory",
-    [RLC_INDEX_SLOTS] = "index slots",     [RLC_CARD_MARK] = "card mark",
-    [RLC_CARD_VERSION] = "card version",   [RLC_CARD_EDGES] = "card edges",
-    [RLC_CARD_OUTPUT] = "card output",     [RLC_WALK_MEMORY] = "walk memory",
-};
-
-static int refused(uint32_t refusal) {
-    int named = refusal >= RLC_VERTICES && refusal <= RLC_WALK_MEMORY;
-    fprintf(stderr, "refused %u: %s\n", refusal, named ? refusals[refusal] : "unknown");
-    return REFUSED;
-}
-
-/* Reads a decimal number that is the whole word and at most the limit. */
-static int read_number(const char *word, uint32_t limit, uint32_t *number) {
-    char *end;
-    errno = 0;
-    unsigned long value = strtoul(word, &end, 10);
-    if (!isdigit((unsigned char)word[0]) || *end != '\0' || errno != 0 || value > limit)
-        return 0;
-    *number = (uint32_t)value;
-    return 1;
-}
 
 /* Reads the words behind the card's name. A number too great for its type in the call (a label over 255) and more labels than
  * PATTERN are wrong usage; whatever the call can be handed is the library's to refuse. */
@@ -82,15 +52,6 @@ static int read_question(int words, char **word, struct question *question) {
         question->pattern[i] = (uint8_t)label;
     }
     return 1;
-}
-
-static int read_file(const char *name, size_t *length) {
-    FILE *file = fopen(name, "rb");
-    if (file == NULL)
-        return 0;
-    *length = fread(card, 1, sizeof card, file);
-    int failed = ferror(file);
-    return fclose(file) == 0 && !failed;
 }
 
 /* The picture's title, its labels in their colours. */
@@ -144,7 +105,7 @@ int main(int argc, char **argv) {
         fprintf(stderr, "usage: light_route CARD START DESTINATION LABEL...\n");
         return USAGE;
     }
-    if (!read_file(argv[1], &length)) {
+    if (!read_file(argv[1], card, sizeof card, &length)) {
         fprintf(stderr, "cannot read %s\n", argv[1]);
         return NO_INPUT;
     }
@@ -155,12 +116,12 @@ int main(int argc, char **argv) {
 
     uint64_t reply = rlc_route(record, RLC_RECORD_N, question.start, question.destination, question.pattern, question.labels,
                                edges, EDGES, walk, WALK, work, WORK);
-    answer = (uint32_t)(reply >> 32);
+    answer = RLC_REPLY(reply);
     if (answer == RLC_NO) {
         fprintf(stderr, "no route\n");
         return NO_ROUTE;
     }
     if (answer != RLC_YES)
         return refused(answer);
-    return print_layout(&question, (uint32_t)reply);
+    return print_layout(&question, RLC_LENGTH(reply));
 }
