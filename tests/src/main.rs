@@ -23,6 +23,7 @@ mod lent;
 mod library;
 mod listing;
 mod lists;
+mod null;
 mod pairs;
 mod query_cases;
 mod record;
@@ -80,10 +81,11 @@ fn main() {
 
 /// The parts that are no rounds, each with the calls and the time so far.
 fn fixed_parts(t: &mut Tester, begin: Instant) {
-    let parts: [(&str, fn(&mut Tester)); 7] = [
+    let parts: [(&str, fn(&mut Tester)); 8] = [
         ("trials", trials::run),
         ("bounds", bounds::run),
         ("lengths", lengths::run),
+        ("null", null::run),
         ("handed", handed::run),
         ("lacking", lacking::run),
         ("routes", routes::run),
