@@ -1,33 +1,113 @@
-/* rlc.h: the pattern index of a model-railway layout.
+/* rlc.h: the pattern index of a model-railway layout. This comment is its manual; each call's own comment says the rest.
  *
- * A layout is a directed graph: vertices (places) numbered from 0, and edges (legs), each from a vertex to a
- * vertex, perhaps the same one, with a label (colour) 1 to 8. A query names a start, a destination and a
- * pattern of labels. The reply is yes exactly when some walk of one or more edges spells the pattern, as
- * keyed, one or more whole times: by 1 any number of edges with label 1, by 1,1 an even number.
+ * A layout is a directed graph: vertices (places) numbered from 0, and edges (legs), each from a vertex to a vertex, perhaps
+ * the same one, with a label (colour) 1 to 8. A query names a start, a destination and a pattern of labels. The reply is yes
+ * exactly when some walk of one or more edges spells the pattern, as keyed, one or more whole times: by 1 any number of edges
+ * with label 1, by 1,1 an even number.
  *
- * Everything the library works on is lent by its caller with each call. Nothing is kept between calls, there
- * is no heap and no global state, and every call returns.
+ * Everything the library works on is lent by its caller with each call. Nothing is kept between calls, there is no heap and
+ * no global state, and every call returns.
+ *
+ *
+ * WHAT IS LENT
  *
  *   record   RLC_RECORD_N numbers: vertices (1 to 256), longest pattern k (1 to 4), then 8 totals: how many edges have
  *            label 1, label 2, .. label 8. Totals let a query by a label that the layout lacks be told no at once. Each
- *            accepted open, insert, remove and read card counts them anew and hands them back in the record, whatever
- *            they were: you need not fill them in before a layout is opened or a card is read. Keep all the numbers
- *            with the edges and the index: with totals that are not those of the edges, rlc_query may reply a wrong no
- *            and is not refused. Only rlc_query looks at totals, and no call is refused for them.
+ *            accepted open, insert, remove and read card counts them anew and hands them back in the record, whatever they
+ *            were: you need not fill them in before a layout is opened or a card is read. Keep all the numbers with the
+ *            edges and the index: with totals that are not those of the edges, rlc_query may reply a wrong no and is not
+ *            refused. Only rlc_query looks at totals, and no call is refused for them.
  *   edges    edge memory, 0 to 1,024 slots: one edge a slot, from * 4096 + label * 256 + to, strictly rising, then zeros
  *   index    index memory, any number of slots: one entry a slot, strictly rising, then zeros
- *   work     at least 4,096 numbers; if an index is built (insert, remove, read card), one more for each index
- *            slot. Contents do not matter. Zero after an accepted call and after refusals 13 and 18, else untouched.
- *            A query uses it only if its pattern repeats itself and no label of it has total 0 (see rlc_query).
+ *   work     at least 4,096 numbers; if an index is built (insert, remove, read card), one more for each index slot.
+ *            Contents do not matter. Zero after an accepted call and after refusals 13 and 18, else untouched. A query uses
+ *            it only if its pattern repeats itself and no label of it has total 0 (see rlc_query).
  *   walk     walk memory, any number of slots: a route's edges in running order, written as in edge memory
  *
- * A slice is a pointer and then its number of elements. Elements must be aligned as their C type asks. A slice
- * of 0 elements may have any pointer, NULL too. One memory must not be lent twice in one call, nor changed by
- * another thread or an interrupt while the call runs. Stack use, as measured on x86-64: below 24 KiB for insert,
- * remove and read card, 20 KiB for a query, 6 KiB for the minimum repeat from the table, 4 KiB for the others.
+ * A slice is a pointer and then its number of elements. Elements must be aligned as their C type asks. A slice of 0 elements
+ * may have any pointer, NULL too. One memory must not be lent twice in one call.
  *
- * A refused call changes nothing that was lent, the record included, except that refusals 13 and 18 zero work
- * memory.
+ * A refused call changes nothing that was lent, the record included, except that refusals 13 and 18 zero work memory.
+ *
+ *
+ * SIZES
+ *
+ * A record has 40 bytes. A slot of edge or walk memory has 4 bytes, a slot of index memory and a number of work memory 8: n
+ * index slots take 8 * n bytes, and the work memory to build an index in them 8 * RLC_WORK_N(n), which is 32,768 + 8 * n.
+ *
+ * How many entries the index has follows from the edges and k; vertices and edges alone do not tell. Measured:
+ *
+ *                                                       k 1      k 2      k 3      k 4
+ *   a station         20 vertices,    31 edges           54       80      156      269 entries
+ *   three stations    60 vertices,    93 edges          166      244      473      831 entries
+ *   six stations     120 vertices,   186 edges          334      490      950    1,674 entries
+ *   sparse           256 vertices, 1,024 edges        1,547    5,645   22,804   88,808 entries
+ *   dense            256 vertices, 1,024 edges          913    1,747    4,197    9,050 entries
+ *   crowded          256 vertices, 1,024 edges          190      380      950    2,090 entries
+ *   railway          256 vertices, 1,024 edges        1,619    6,609   31,957  139,289 entries
+ *
+ * The first three are club layouts: examples/station.txt, a double-track oval with a station, hidden sidings and a branch,
+ * and three and six of them in a ring (the cards are in examples/). The others are the layouts of docs/BENCHMARKS.md: edges
+ * drawn at random with 8 labels (sparse) or 2 (dense), with 2 labels among 48 vertices (crowded), and four double-track loops
+ * with crossovers and sidings (railway). These are no upper limits: 256 vertices in a chain, each joined to the next by four
+ * labels, need 2,886,244 entries at k 4.
+ *
+ * The program size tells the entries and the bytes for them from a layout's card, before any track is laid (README.md). Every
+ * entry is needed, so there are no fewer. But a layout that will be changed can need more on the way: to remove one edge of
+ * the ring of six stations takes 1,092 entries at k 2, and 490 stand with it. On refusal 13 (RLC_INDEX_SLOTS) lend more index
+ * slots, and as many more numbers of work memory, and call again: nothing else was changed. Index memory may be moved to a
+ * larger one at any time: the entries, then zeros.
+ *
+ *
+ * COST
+ *
+ * Times are of one computer; docs/BENCHMARKS.md has them all.
+ *
+ * - rlc_insert, rlc_remove and rlc_read_card each build the whole index anew: 20 to 75 ns for each entry, so 15 us for the
+ *   station and 0.13 to 4 ms for the four layouts of 1,024 edges, at k 4.
+ * - To load many edges read a card: it is one build. 1,024 edges inserted one by one took 300 to 600 times as long.
+ * - rlc_query reads every slot of index memory that is lent, zeros too: 0.9 to 1.5 ns an entry, 0.3 ns a zero. Lend the slots
+ *   that are needed and no more: with 262,144 slots for 380 entries a query took 130 times as long. By a label that the layout
+ *   lacks it reads no memory, and takes 5 to 12 ns.
+ * - rlc_search and rlc_route search the edges, 2 to 4 us for 1,024 of them, and look at no index: if there are many entries,
+ *   that is less than a query takes. A query by a pattern that repeats itself costs both.
+ * - Work memory that is used is zeroed whole: lend RLC_WORK_N(0) numbers to a call that builds no index.
+ *
+ *
+ * THREADS AND INTERRUPTS
+ *
+ * Nothing is shared behind your back: calls on different memory may run at the same time, and an interrupt may make a call on
+ * memory of its own while another call runs. Memory that a call was lent must not be changed by anyone else until it returns.
+ * rlc_query, rlc_search, rlc_route and rlc_write_card only read the record, edges and index: any number of them may run side
+ * by side on the same ones as long as nobody changes these, if each has its own work and walk memory and output (a query that
+ * needs no work memory may be lent none). rlc_open, rlc_insert, rlc_remove and rlc_read_card write the record, edges, index
+ * and work, and must have them to themselves until they return, even if they are then refused: in between these are half
+ * done. A call that is abandoned and not returned from leaves them so; open the layout or read its card again.
+ *
+ *
+ * STACK
+ *
+ * What each call takes with all that it calls, the return address and the arguments on the stack included, as tools/stack
+ * measures it on x86-64; the tests hold these figures to it. memset, which the library takes from your C library, is in it
+ * with nothing but its return address.
+ *
+ *   rlc_insert, rlc_remove, rlc_read_card                      18 KiB
+ *   rlc_query                                                  17 KiB
+ *   rlc_minimum_repeat                                          5 KiB
+ *   rlc_search, rlc_route                                       3 KiB
+ *   rlc_open, rlc_write_card                                    1 KiB
+ *   rlc_minimum_repeat_computed, rlc_times_written              1 KiB
+ *
+ * A query by a label that the layout lacks takes below 1 KiB.
+ *
+ *
+ * WHAT IT IS BUILT FOR
+ *
+ * `rt staticlib`, which makes librlc_c.a, compiles for x86-64 and Linux (an ELF object, System V calling convention, fit for
+ * position-independent programs), and for nothing else today. The library is 21 KB of code and constants, has no data of its
+ * own, makes no system call, computes with integers alone (in SSE2 registers too, which an interrupt has to save), and asks
+ * one function of the program that it is linked into, memset. The proofs do not depend on the processor. For another one the
+ * kit's compiler has to learn it; C and C++ programs need nothing but this header.
  */
 #ifndef RLC_H
 #define RLC_H
@@ -57,10 +137,10 @@ extern "C" {
 
 /* Replies. */
 enum {
-    RLC_ACCEPTED = 0, /* of open, insert, remove, read card */
-    RLC_NO = 0,       /* of query, search and route */
-    RLC_YES = 100,
-    RLC_SPENT = 101,   /* of search: neither yes nor no within the level limit */
+    RLC_ACCEPTED = 0,    /* of open, insert, remove, read card; of write card, with the card's length */
+    RLC_NO = 0,          /* of query, search and route */
+    RLC_YES = 100,       /* of these */
+    RLC_SPENT = 101,     /* of search: neither yes nor no within the level limit */
     RLC_BAD_RECORD = 255 /* the record lent does not have RLC_RECORD_N numbers; nothing is touched */
 };
 

@@ -34,10 +34,15 @@ pub type Change = unsafe extern "C" fn(*mut u32, usize, u32, u32, u32, *mut u32,
 pub type Query = unsafe extern "C" fn(*const u32, usize, u32, u32, *const u8, usize, *const u32, usize, *const u64, usize, *mut u64, usize) -> u32;
 
 impl Lent {
+    /// A layout of 256 vertices.
     pub fn new(longest: u32, edges: &[u32], slots: usize) -> Lent {
+        Lent::of(VERTICES, longest, edges, slots)
+    }
+
+    pub fn of(vertices: u32, longest: u32, edges: &[u32], slots: usize) -> Lent {
         let index = vec![u64::MAX; slots];
         let mut record = [0; RECORD_N];
-        record[..2].copy_from_slice(&[VERTICES, longest]);
+        record[..2].copy_from_slice(&[vertices, longest]);
         Lent { record, edges: edges.to_vec(), index, work: vec![u64::MAX; 4096 + slots] }
     }
 
@@ -118,5 +123,5 @@ pub fn draw_joined(random: &mut Random, lent: &Lent) -> (u32, u32, Vec<u8>) {
 /// Ends and patterns at random, patterns from the index itself.
 pub fn draw(random: &mut Random, lent: &Lent) -> (u32, u32, Vec<u8>) {
     let (_, _, pattern) = draw_joined(random, lent);
-    (random.below(VERTICES), random.below(VERTICES), pattern)
+    (random.below(lent.record[0]), random.below(lent.record[0]), pattern)
 }

@@ -9,7 +9,7 @@ use crate::trials::CARD_A;
 use std::io::Write;
 use std::process::{Command, Stdio};
 
-const BYTES: usize = 4096;
+pub const BYTES: usize = 4096;
 const SLOTS: usize = 1024;
 
 /// Runs the program with these inputs; returns how many.
@@ -23,7 +23,7 @@ pub fn run(t: &mut Tester, program: &str) -> usize {
     inputs.len()
 }
 
-fn inputs(t: &mut Tester) -> Vec<Vec<u8>> {
+pub fn inputs(t: &mut Tester) -> Vec<Vec<u8>> {
     let largest = largest();
     let too_many = card_of([256, 2], &gen::many_edges(&mut t.rng, SLOTS));
     let mut inputs =
@@ -48,13 +48,13 @@ fn largest() -> Vec<u8> {
     card_of([256, 1], &edges)
 }
 
-fn printed_by(program: &str, input: &[u8]) -> String {
-    let mut child =
-        Command::new(program).stdin(Stdio::piped()).stdout(Stdio::piped()).spawn().expect("the listing program");
+/// What a program prints for the input.
+pub fn printed_by(program: &str, input: &[u8]) -> String {
+    let mut child = Command::new(program).stdin(Stdio::piped()).stdout(Stdio::piped()).spawn().expect("the program");
     // The program may end without reading bytes behind the 4,096th.
     let _ = child.stdin.take().expect("its input").write_all(input);
     let output = child.wait_with_output().expect("its output");
-    assert!(output.status.success(), "the listing program's status");
+    assert!(output.status.success(), "the status of {program}");
     String::from_utf8(output.stdout).expect("text")
 }
 

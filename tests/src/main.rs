@@ -17,6 +17,8 @@ mod full_reply;
 mod gen;
 mod handed;
 mod lacking;
+#[path = "../../bench/src/layouts.rs"]
+mod layouts;
 mod ledger;
 mod lengths;
 mod lent;
@@ -35,6 +37,7 @@ mod rng;
 mod routes;
 mod selfcheck;
 mod shortest;
+mod size;
 mod trials;
 
 use compare::Tester;
@@ -46,6 +49,7 @@ const ROUNDS: u64 = 600;
 
 /// The programs, as `rt check` leaves them in the repository.
 const LISTING: &str = "target/bin/listing";
+const SIZE: &str = "target/bin/size";
 const REPEAT_TABLE: &str = "target/bin/repeat_table";
 
 fn main() {
@@ -97,4 +101,6 @@ fn fixed_parts(t: &mut Tester, begin: Instant) {
     }
     let listings = listing::run(t, LISTING);
     println!("listing: {listings} inputs, {:.1} s", begin.elapsed().as_secs_f64());
+    let sizes = size::run(t, SIZE);
+    println!("size: {sizes} inputs, {:.1} s", begin.elapsed().as_secs_f64());
 }

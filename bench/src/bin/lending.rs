@@ -1,5 +1,6 @@
 //! What lending too much and loading edge by edge cost, through the C interface: a lay and a query with just the index slots that are needed and
-//! with 2^18, and a layout loaded by a card and by one lay after another. Both take turns.
+//! with 2^18, and a layout loaded by a card and by one lay after another. Both take turns. And what the calls cost on the small layouts of one,
+//! three and six stations.
 
 #[path = "../layouts.rs"]
 #[allow(dead_code)]
@@ -12,8 +13,9 @@ mod lent;
 mod timing;
 
 use layouts::{Random, VERTICES};
+use std::path::Path;
 use lent::{draw, rlc_insert, rlc_remove, Lent};
-use timing::{heading_of, millis, print_times};
+use timing::{figures, heading_of, millis, print_times};
 
 extern "C" {
     #[rustfmt::skip]
@@ -39,6 +41,15 @@ fn lay(lent: &mut Lent, edge: u32) -> f64 {
     time * 1e3
 }
 
+/// The slots that are needed to lay the edge again: it is removed first, and that may need more entries than there are with it.
+fn needed(lent: &mut Lent, edge: u32) -> usize {
+    let entries = lent.entries();
+    assert_eq!(lent.change(rlc_remove, edge), 0);
+    let without = lent.entries();
+    assert_eq!(lent.change(rlc_insert, edge), 0);
+    entries.max(without)
+}
+
 /// The mean of 100 queries, in us.
 fn queries(lent: &mut Lent) -> f64 {
     let mut random = Random(12);
@@ -54,11 +65,7 @@ fn spare(what: &str, turns: usize, time: impl Fn(&mut Lent) -> f64) {
     for layout in &layouts::all() {
         for longest in [2, 4] {
             let mut many = held(longest, &layout.edges, MANY);
-            // A lay removes its edge first, and that may need more entries than there are with it.
-            let entries = many.entries();
-            assert_eq!(many.change(rlc_remove, layout.edges[0]), 0);
-            let needed = entries.max(many.entries());
-            assert_eq!(many.change(rlc_insert, layout.edges[0]), 0);
+            let needed = needed(&mut many, layout.edges[0]);
             let mut just = held(longest, &layout.edges, needed);
             let (mut a, mut b) = (Vec::new(), Vec::new());
             for _ in 0..turns {
@@ -77,13 +84,12 @@ fn card_of(longest: u32, edges: &[u32]) -> Vec<u8> {
     card
 }
 
-/// Loads the layout by its card, in ms.
-fn by_card(longest: u32, edges: &[u32], index: &mut [u64], work: &mut [u64]) -> f64 {
-    let card = card_of(longest, edges);
-    let (mut record, mut held) = ([0; 10], vec![0; edges.len()]);
+/// Loads a layout by its card, in ms.
+fn by_card(card: &[u8], index: &mut [u64], work: &mut [u64]) -> f64 {
+    let (mut record, mut held) = ([0; 10], [0; 1024]);
     let (time, reply) = millis(|| unsafe {
         let (c, e, i, w) = (card.as_ptr(), held.as_mut_ptr(), index.as_mut_ptr(), work.as_mut_ptr());
-        rlc_read_card(record.as_mut_ptr(), 10, c, card.len(), e, edges.len(), i, index.len(), w, work.len())
+        rlc_read_card(record.as_mut_ptr(), 10, c, card.len(), e, held.len(), i, index.len(), w, work.len())
     });
     assert_eq!(reply, 0);
     time
@@ -117,9 +123,48 @@ fn load() {
             let (mut lays, mut cards) = (Vec::new(), Vec::new());
             for _ in 0..3 {
                 lays.push(by_lays(longest, &layout.edges, slots));
-                cards.push(by_card(longest, &layout.edges, &mut index, &mut work));
+                cards.push(by_card(&card_of(longest, &layout.edges), &mut index, &mut work));
             }
             print_times(&format!("{} k {longest}", layout.name), lays, cards, format!("{entries} entries, {slots} on the way"));
+        }
+    }
+}
+
+/// A card of examples/, with another longest pattern.
+fn example(name: &str, longest: u32) -> Vec<u8> {
+    let path = Path::new(env!("CARGO_MANIFEST_DIR")).join("../examples").join(name).with_extension("prc");
+    let mut card = std::fs::read(path).expect("a card");
+    card[6] = longest as u8;
+    card
+}
+
+/// The layout of a card, its index built in so many slots.
+fn held_of(card: &[u8], slots: usize) -> Lent {
+    let edge = |x: &[u8]| x[0] as u32 * 4096 + x[1] as u32 * 256 + x[2] as u32;
+    let edges: Vec<u32> = card[9..].chunks(3).map(edge).collect();
+    let mut lent = Lent::of(card[5] as u32 + 1, card[6] as u32, &edges, slots);
+    lay(&mut lent, edges[0]);
+    lent
+}
+
+fn clubs() {
+    heading_of("small layouts", "us", "lay", "query");
+    for name in ["station", "three_stations", "six_stations"] {
+        for longest in [2, 4] {
+            let card = example(name, longest);
+            let mut lent = held_of(&card, MANY);
+            let (entries, edge) = (lent.entries(), lent.edges[0]);
+            let slots = needed(&mut lent, edge);
+            lent = held_of(&card, slots);
+            let (mut index, mut work) = (vec![0; slots], vec![0; 4096 + slots]);
+            let (mut lays, mut asked, mut cards) = (Vec::new(), Vec::new(), Vec::new());
+            for _ in 0..200 {
+                lays.push(lay(&mut lent, edge));
+                asked.push(queries(&mut lent));
+                cards.push(by_card(&card, &mut index, &mut work) * 1e3);
+            }
+            let note = format!("card read in {:.3}, {entries} entries, {slots} slots", figures(cards).0);
+            print_times(&format!("{name} k {longest}"), lays, asked, note);
         }
     }
 }
@@ -131,4 +176,5 @@ fn main() {
     });
     spare("query", 5, queries);
     load();
+    clubs();
 }

@@ -3,9 +3,8 @@ use Prim.Native.Nat.{_+_, _≤_}
 use native.Mathlib.Omega.{arith}
 use borrow.Author.Needs.{needs}
 use lib.ListN.{length}
-use Rattle.model.specs.Limits.{leastWork}
-use Rattle.printing.specs.Lines.{indexWord, workWord, bytesOf}
-use Rattle.printing.proofs.Putting.{puts-then, field-length, counts-length, sizes-is}
+use Rattle.printing.specs.Lines.{indexWord, workWord}
+use Rattle.printing.proofs.Putting.{puts-then, field-end, counts-length, sizes-is}
 use Rattle.printing.proofs.put_sizes.Statement.{statement}
 use Rattle.printing.proofs.put_sizes.Tie as tie
 
@@ -20,14 +19,11 @@ room-counts c =
 
 room-index : (c : tie.After-put-field) → c .put-field .result + 29 ≤ length (c .put-field .last .0)
 room-index c =
-    let counts = c .before .before .before .before .before in
-    omega (arith, c .put-field .ensures .end, c .put-field .kept .0, field-length indexWord (bytesOf (start counts .args .entries)), room-counts counts)
+    omega (arith, field-end indexWord _ (c .put-field .ensures), c .put-field .kept .0, room-counts (c .before .before .before .before .before))
 
 room-work : (c : tie.After-put-field2) → c .put-field2 .result + 7 ≤ length (c .put-field2 .last .0)
 room-work c =
-    let index = c .before .before .before .before .before in
-    let counts = index .before .before .before .before .before in
-    omega (arith, c .put-field2 .ensures .end, c .put-field2 .kept .0, field-length workWord (bytesOf (leastWork + start counts .args .entries)), room-index index)
+    omega (arith, field-end workWord _ (c .put-field2 .ensures), c .put-field2 .kept .0, room-index (c .before .before .before .before .before))
 
 put-field-requires : tie.Need-put-field-requires
 put-field-requires c κs = omega (arith, room-counts (c .before .before .before .before))
