@@ -35,7 +35,7 @@
  * A record has 40 bytes. A slot of edge or walk memory has 4 bytes, a slot of index memory and a number of work memory 8: n
  * index slots take 8 * n bytes, and the work memory to build an index in them 8 * RLC_WORK_N(n), which is 32,768 + 8 * n.
  *
- * How many entries the index has follows from the edges and k; vertices and edges alone do not tell. Measured:
+ * How many entries the index has follows from the edges and k; how many vertices and edges there are does not tell. Measured:
  *
  *                                                       k 1      k 2      k 3      k 4
  *   a station         20 vertices,    31 edges           54       80      156      269 entries
@@ -53,10 +53,10 @@
  * labels, need 2,886,244 entries at k 4.
  *
  * The program size tells the entries and the bytes for them from a layout's card, before any track is laid (README.md). Every
- * entry is needed, so there are no fewer. But a layout that will be changed can need more on the way: to remove one edge of
- * the ring of six stations takes 1,092 entries at k 2, and 490 stand with it. On refusal 13 (RLC_INDEX_SLOTS) lend more index
- * slots, and as many more numbers of work memory, and call again: nothing else was changed. Index memory may be moved to a
- * larger one at any time: the entries, then zeros.
+ * entry is needed, so fewer slots will not do. But a layout that is changed can need more on the way: without its edge 0-1-1
+ * (from 0, label 1, to 1) the ring of six stations needs 1,092 entries at k 2, and 490 with it. On refusal 13
+ * (RLC_INDEX_SLOTS) lend more index slots, and as many more numbers of work memory, and call again: nothing else was changed.
+ * Index memory may be moved to a larger one at any time: the entries, then zeros.
  *
  *
  * COST

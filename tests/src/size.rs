@@ -46,15 +46,16 @@ fn tabled(t: &Tester, program: &str, (name, vertices, edges): &Named, row: &Row)
     }
 }
 
-/// What the header says of an edge that is removed from the ring of six stations.
+/// What the header says of edge 0-1-1, the first one, removed from the ring of six stations.
 fn removal(t: &Tester, program: &str, layouts: &[Named]) {
     let (_, vertices, edges) = layouts.iter().find(|layout| layout.0 == "six stations").expect("six stations");
+    t.expect("the first edge", edges[0], (0, 1, 1));
     let counts: Vec<usize> = [&edges[1..], &edges[..]].iter().map(|edges| determined(edges, 2).len()).collect();
     for (edges, entries) in [&edges[1..], &edges[..]].iter().zip(&counts) {
         let printed = listing::printed_by(program, &card_of([*vertices, 2], edges));
         t.expect("the size of the ring", printed, line(*vertices, 2, edges.len(), *entries));
     }
-    let said = format!("takes {} entries at k 2, and {} stand with it", grouped(counts[0]), grouped(counts[1]));
+    let said = format!("six stations needs {} entries at k 2, and {} with it", grouped(counts[0]), grouped(counts[1]));
     let text = HEADER.replace("\n *", "").split_whitespace().collect::<Vec<_>>().join(" ");
     t.expect("what the header says of a removal", text.contains(&said), true);
 }

@@ -16,3 +16,4 @@ pub mod Demand2
 pub mod Demand3
 pub mod Receiving
 pub mod Meaning
+pub mod Needs

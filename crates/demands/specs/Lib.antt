@@ -4,3 +4,4 @@ pub mod Demand1
 pub mod Demand2
 pub mod Meaning
 pub mod Run
+pub mod Needs

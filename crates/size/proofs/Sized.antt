@@ -1,13 +1,11 @@
--- What is printed after a card reading: what the layout needs, or the refusal. And what it says of a reading into other memory.
+-- What is printed after a card reading: what the layout needs, or the refusal.
 use mathlib.Core.Path.{_≡_, refl, sym, ap, _∙_}
-use mathlib.Core.Bool.{cond}
-use mathlib.Core.List.{List, [], _∷_, _++_}
-use Prim.Native.Nat.{ℕ, zero, suc, _+_, _≤_, _<_}
+use mathlib.Core.List.{List}
+use Prim.Native.Nat.{ℕ, zero, suc, _≤_}
 use native.Mathlib.Omega.{arith}
 use borrow.Author.Tests.{eq-eqb, ne-eqb}
-use lib.Dec.{leb}
 use lib.ListN.{length, drop}
-use Rattle.model.specs.Limits.{mostEdges, leastWork, headBytes}
+use Rattle.model.specs.Limits.{mostEdges, headBytes}
 use Rattle.model.specs.Lists.{Bytes}
 use Rattle.model.specs.Edges.{standing}
 use Rattle.model.specs.Replies.{numberOf, answerOf}
@@ -23,11 +21,12 @@ use Rattle.calls.specs.Card.{sizeOf, countOf, edgesOf, readCall}
 use Rattle.calls.proofs.Card.{card-good}
 use Rattle.store.specs.Store.{returned}
 use Rattle.store.specs.declared.Changed.{Changed}
+use Rattle.demands.specs.Needs.{needed}
 use Rattle.demands.proofs.Index.{whole-stands}
 use Rattle.demands.proofs.Reading.{read-said}
 use Rattle.printing.specs.Puts.{Puts}
 use Rattle.printing.specs.Lines.{refusedLine, sizeLine, overLine}
-use Rattle.size.specs.Sizing.{sizedSlots, sizedMemory, needed, refusalLine, line, sized}
+use Rattle.size.specs.Sizing.{sizedSlots, sizedMemory, refusalLine, line, sized}
 
 -- ---- what a reading leaves
 

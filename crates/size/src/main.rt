@@ -8,7 +8,7 @@ ghost use lib.ListN.{length};
 ghost use Rattle.printing.specs.Puts.{Puts};
 ghost use Rattle.size.specs.Sizing.{refusalLine, sized};
 
-// Slots of index memory: as many as the stack of a program has room for, twice. A layout that needs more is told so.
+// Slots of index memory. It and work memory stand on the stack: 4.2 MB of the 8 MB that a program has. A layout that needs more is told so.
 const SLOTS: usize = 1 << 18;
 
 // The longest line.

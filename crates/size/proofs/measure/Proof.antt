@@ -2,7 +2,6 @@
 use native.Mathlib.Omega.{arith}
 use Prim.Native.Nat.{_≤_}
 use borrow.Author.Needs.{needs}
-use lib.ListN.{length}
 use Rattle.model.specs.Lists.{Bytes}
 use Rattle.memory.proofs.Reading.{standing-within}
 use Rattle.calls.proofs.Card.{bytes-known}

@@ -1,6 +1,5 @@
--- What the line says of a reading into other memory: room for the entries is enough, and fewer slots are not.
-use mathlib.Core.Path.{_≡_, refl, ap, _∙_}
-use mathlib.Core.Bool.{Bool, true, false}
+-- Room for the entries of a card's layout is enough to read it, and fewer slots are not.
+use mathlib.Core.Path.{_≡_, ap, _∙_}
 use mathlib.Core.List.{List, [], _∷_, _++_}
 use Prim.Native.Nat.{ℕ, _+_, _≤_, _<_}
 use native.Mathlib.Omega.{arith}
@@ -15,8 +14,7 @@ use Rattle.calls.specs.Card.{sizeOf, countOf, edgesOf, cardChecks, readRefusal,
 use Rattle.calls.proofs.Checks.{First, none, pass, stop, first-is}
 use Rattle.calls.proofs.Change.{pass-first, front-passes}
 use Rattle.calls.proofs.Settling.{Result, settledChange, settled, accepted-zero}
-use Rattle.demands.specs.Demand2.{Roomy}
-use Rattle.size.specs.Sizing.{sizedMemory, needed, Needs, Sizing}
+use Rattle.demands.specs.Needs.{needed, CardNeeds}
 
 module _ (card : List ℕ) (m : Memory) where
   -- the checks of memory, behind those of the card alone
@@ -56,10 +54,10 @@ module _ (card : List ℕ) (m : Memory) where
         let n : number ≡ 13 = number-is (stop (test-false (test-le (needed card) (length (m .index))) (λ k. omega (arith, h, k)))) in
         ap (λ (r : Returned). r .answer) (reads .reply (omega (arith, n))) ∙ n
 
-pub needs-said : Sizing
-needs-said card e =
-    let own = passes card sizedMemory e in
+pub card-needs : CardNeeds
+card-needs card m e =
+    let own = passes card m e in
     record {
-      enough = λ m room. accepts card m own (room .edge-slots) (room .few) (room .work) (room .index-slots);
-      short = λ m edges few room h. refuses card m own edges few room h;
+      enough = λ m′ room. accepts card m′ own (room .edge-slots) (room .few) (room .work) (room .index-slots);
+      short = λ m′ edges few room h. refuses card m′ own edges few room h;
     }
