@@ -16,17 +16,17 @@ static uint64_t index_memory[INDEX], work[WORK];
 
 /* Each step returns RLC_ACCEPTED or the refusal. */
 
-static uint32_t lay(void) {
-    static const uint32_t legs[3][3] = {{0, 1, 1}, {1, 1, 2}, {1, 2, 0}}; /* from, label, to */
+static uint32_t set_up(void) {
+    static const uint32_t wanted[3][3] = {{0, 1, 1}, {1, 1, 2}, {1, 2, 0}}; /* from, label, to */
     uint32_t reply = rlc_open(record, RLC_RECORD_N, edges, EDGES, index_memory, INDEX);
     if (reply != RLC_ACCEPTED)
         return reply;
     printf("open accepted\n");
     for (int i = 0; i < 3; i++) {
-        reply = rlc_insert(record, RLC_RECORD_N, legs[i][0], legs[i][1], legs[i][2], edges, EDGES, index_memory, INDEX, work, WORK);
+        reply = rlc_insert(record, RLC_RECORD_N, wanted[i][0], wanted[i][1], wanted[i][2], edges, EDGES, index_memory, INDEX, work, WORK);
         if (reply != RLC_ACCEPTED)
             return reply;
-        printf("insert %" PRIu32 "-%" PRIu32 "-%" PRIu32 " accepted\n", legs[i][0], legs[i][1], legs[i][2]);
+        printf("insert %" PRIu32 "-%" PRIu32 "-%" PRIu32 " accepted\n", wanted[i][0], wanted[i][1], wanted[i][2]);
     }
     printf("edges by label:");
     for (int i = 2; i < RLC_RECORD_N; i++)
@@ -79,7 +79,7 @@ static uint32_t write_card(void) {
 }
 
 int main(void) {
-    uint32_t reply = lay();
+    uint32_t reply = set_up();
     if (reply == RLC_ACCEPTED)
         reply = ask();
     if (reply == RLC_ACCEPTED)

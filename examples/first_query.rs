@@ -18,7 +18,7 @@ fn yes_or_no(answer: bool) -> &'static str {
     }
 }
 
-fn lay(layout: &mut Layout) -> Result<(), Refusal> {
+fn set_up(layout: &mut Layout) -> Result<(), Refusal> {
     layout.open(3, 2)?; // 3 vertices, patterns of at most 2 labels
     println!("open accepted");
     for (from, label, to) in [(0, 1, 1), (1, 1, 2), (1, 2, 0)] {
@@ -56,7 +56,7 @@ fn write_card(layout: &Layout) -> Result<(), Refusal> {
 fn run() -> Result<(), Refusal> {
     let (mut edges, mut index, mut work) = ([0; EDGES], [0; INDEX], [0; work_n(INDEX)]);
     let mut layout = Layout::new(&mut edges, &mut index, &mut work);
-    lay(&mut layout)?;
+    set_up(&mut layout)?;
     ask(&mut layout)?;
     write_card(&layout)
 }

@@ -61,7 +61,7 @@
  *
  * COST
  *
- * Times were measured on several PCs, a kind of call on one of them (docs/BENCHMARKS.md): go by their order of magnitude.
+ * Times were measured on several PCs (docs/BENCHMARKS.md): go by their order of magnitude.
  *
  * - rlc_insert, rlc_remove and rlc_read_card each build the whole index anew: 20 to 75 ns for each entry, so 15 us for the
  *   station and 0.13 to 4 ms for the four layouts of 1,024 edges, at k 4.

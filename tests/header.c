@@ -135,7 +135,7 @@ static uint32_t card_read(size_t card_n, size_t work_n) {
     return rlc_read_card(record, RLC_RECORD_N, card, card_n, edges, 1, index_memory, SLOTS, work, work_n);
 }
 
-/* A layout is opened and its one edge laid. */
+/* A layout is opened and its one edge inserted. */
 static void changes(void) {
     fact("open, a record too short", opened(RLC_RECORD_N - 1) == RLC_BAD_RECORD);
     fact("open", opened(RLC_RECORD_N) == RLC_ACCEPTED);
@@ -162,7 +162,7 @@ static void questions(void) {
     fact("route, a record too short", RLC_REPLY(routed(RLC_RECORD_N - 1, 1, enough)) == RLC_BAD_RECORD);
 }
 
-/* The card is written, read, and its edge lifted. */
+/* The card is written, read, and its edge removed. */
 static void cards(void) {
     uint64_t reply = written(RLC_RECORD_N, RLC_CARD_N(1) - 1);
     fact("write card, too short an output", RLC_REPLY(reply) == RLC_CARD_OUTPUT && RLC_LENGTH(reply) == 0);

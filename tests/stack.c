@@ -424,8 +424,8 @@ static void change(enum id id, uint32_t edge) {
         vary(id, a, 6, edge_n - 1);
 }
 
-/* An edge is laid and lifted where it stands, and where it does not. */
-static void lay_and_lift(size_t at) {
+/* An edge is inserted and removed where it stands, and where it does not. */
+static void insert_and_remove(size_t at) {
     uint32_t edge = kept_edges[at];
     size_t behind = (edge_n - 1 - at) * sizeof edge;
     change(INSERT, edge);
@@ -501,8 +501,8 @@ static void of_layout(void) {
     questions();
     refused_questions();
     write_card();
-    lay_and_lift(edge_n / 2);
-    lay_and_lift(edge_n - 1);
+    insert_and_remove(edge_n / 2);
+    insert_and_remove(edge_n - 1);
     read_card();
     opening();
 }

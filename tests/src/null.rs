@@ -52,16 +52,16 @@ const CASES: &[Case] = &[
     ("insert", &["edges", "index", "work"], in_a, 4),
     ("insert", &["record", "edges", "index", "work"], in_a, 255),
 
-    ("remove", &["record"], lift, 255),
-    ("remove", &["edges"], lift, 8),
-    ("remove", &["index"], lift, 13),
-    ("remove", &["index"], lift_last, 0),
-    ("remove", &["work"], lift, 4),
-    ("remove", &["work"], lift_last, 4),
-    ("remove", &["edges", "index"], lift, 8),
-    ("remove", &["index", "work"], lift_last, 4),
-    ("remove", &["edges", "index", "work"], lift, 4),
-    ("remove", &["record", "edges", "index", "work"], lift, 255),
+    ("remove", &["record"], remove, 255),
+    ("remove", &["edges"], remove, 8),
+    ("remove", &["index"], remove, 13),
+    ("remove", &["index"], remove_last, 0),
+    ("remove", &["work"], remove, 4),
+    ("remove", &["work"], remove_last, 4),
+    ("remove", &["edges", "index"], remove, 8),
+    ("remove", &["index", "work"], remove_last, 4),
+    ("remove", &["edges", "index", "work"], remove, 4),
+    ("remove", &["record", "edges", "index", "work"], remove, 255),
 
     ("query", &["record"], in_a, 255),
     ("query", &["pattern"], in_a, 11),
@@ -214,13 +214,13 @@ fn no_vertices(given: &mut Given) {
 }
 
 /// An edge that stands.
-fn lift(given: &mut Given) {
+fn remove(given: &mut Given) {
     given.edge = LAYOUT_A[0];
 }
 
 /// The only edge that stands.
-fn lift_last(given: &mut Given) {
-    lift(given);
+fn remove_last(given: &mut Given) {
+    remove(given);
     given.memory.edges = edge_memory(&LAYOUT_A[..1], 5);
 }
 

@@ -1,7 +1,7 @@
 -- Card reading: the call on any station is the ledger's turn.
 use mathlib.Core.Path.{_≡_, refl, sym, _∙_}
 use mathlib.Core.Bool.{Bool, true, false, not, _&&_, _||_}
-use mathlib.Core.List.{List, [], _∷_, _++_, map}
+use mathlib.Core.List.{List, map}
 use Prim.Native.Nat.{ℕ, _+_, _-_, _*_, _≤_}
 use native.Mathlib.Decide.{decLt}
 use native.Mathlib.Omega.{arith}
@@ -11,13 +11,13 @@ use Rattle.model.specs.Limits.{mostEdges, mostLongest, headBytes, leastWork}
 use Rattle.model.specs.Lists.{any?, upTo, Bytes}
 use Rattle.model.specs.Computed.Entries.{determined}
 use Rattle.model.proofs.Tests.{test-true, test-false, test-yields, test-fails, test-and, test-eq, test-le, test-lt, test-T}
-use Rattle.calls.specs.Checks.{Check, firstRefusal}
+use Rattle.calls.specs.Checks.{firstRefusal}
 use Rattle.calls.specs.Call.{Memory, graphOf, noRecord}
-use Rattle.calls.specs.Change.{handing, buildRoom?, fits?}
-use Rattle.calls.specs.Card.{marked?, sizeOf, countOf, edgesOf, risingTriples?, cardEdges?, cardChecks, readRefusal, readChange, readCall}
+use Rattle.calls.specs.Change.{buildRoom?, fits?}
+use Rattle.calls.specs.Card.{marked?, sizeOf, countOf, edgesOf, risingTriples?, cardEdges?, readCall}
 use Rattle.calls.proofs.Checks.{test-longest}
 use Rattle.calls.proofs.Card.{marked-short, marked-at, card-edges-long, card-edges-body, triples-good, length-edges, card-vertices}
-use Rattle.calls.proofs.Settling.{Result, settledChange, settled}
+use Rattle.calls.proofs.Settling.{settledChange}
 use Rattle.calls.proofs.Passing.{passing}
 use Rattle.demands.specs.Ledger.{Book, card as cardGiven, rising, bookEntries, narrow, full, byte, edgeCount, nthEdge, stray, falls, cardBook, cardNumber, nothing, turn}
 use Rattle.demands.specs.Terms.{replyTo}
@@ -26,6 +26,7 @@ use Rattle.demands.proofs.Rising.{EdgesOf, rising-is}
 use Rattle.demands.proofs.Numbers.{Gives, gives-none, chain, above-not, either-not, outside-not}
 use Rattle.demands.proofs.Steps.{stationOf, Fine, edge-slots, index-slots, Reaches, Matches, matches, begins, first-reply}
 use Rattle.demands.proofs.CardReader.{triples-agree, edges-agree}
+use Rattle.demands.proofs.Reading.{readChecks, read-result}
 
 module _ (card : List ℕ) (bytes : Bytes card) (work : List ℕ) where
   abbrev reads : Call
@@ -86,15 +87,7 @@ module _ (card : List ℕ) (bytes : Bytes card) (work : List ℕ) where
     abbrev m : Memory
     m = memoryOf s work
 
-    abbrev readChecks : List Check
-    readChecks =
-        cardChecks card
-        ++ ((3, leb (length (m .edges)) mostEdges) ∷ (9, leb (countOf card) (length (m .edges))) ∷ (4, buildRoom? m) ∷ [])
-
-    abbrev allChecks : List Check
-    allChecks = readChecks ++ ((13, fits? (sizeOf card) wanted m) ∷ [])
-
-    read-gives : Gives allChecks (cardNumber card (fedBy slots room reads))
+    read-gives : Gives (readChecks card m) (cardNumber card (fedBy slots room reads))
     unfolding cardNumber
     read-gives =
         chain fourteen (λ _.
@@ -118,10 +111,10 @@ module _ (card : List ℕ) (bytes : Bytes card) (work : List ℕ) where
         thirteen : WholeCard → full (cardBook card) (fedBy slots room reads) ≡ not (fits? (sizeOf card) wanted m)
         thirteen w = rw (book-entries w, long) (above-not (length (determined (graphOf (sizeOf card) wanted))) room)
 
-    read-reaches : firstRefusal allChecks ≡ 0 → Reaches slots room (sizeOf card) (settledChange (sizeOf card) wanted m) (cardBook card)
+    read-reaches : firstRefusal (readChecks card m) ≡ 0 → Reaches slots room (sizeOf card) (settledChange (sizeOf card) wanted m) (cardBook card)
     unfolding cardBook
     read-reaches e =
-        let (_, (_, (k, (edges, (few, (nine, (_, (held, _)))))))) = passing allChecks tt e in
+        let (_, (_, (k, (edges, (few, (nine, (_, (held, _)))))))) = passing (readChecks card m) tt e in
         let w = whole edges in
         let (c, d) = test-yields (test-longest (sizeOf card .longest)) k in
         let space : n ≤ slots = rw wide at (test-yields (test-le (countOf card) (length (s .edges))) nine) in
@@ -140,20 +133,16 @@ module _ (card : List ℕ) (bytes : Bytes card) (work : List ℕ) where
           };
         }
 
-    read-result : Result (readCall card m) noRecord m (handing noRecord (sizeOf card) (settledChange (sizeOf card) wanted m)) (firstRefusal allChecks)
-    unfolding readCall readChange readRefusal
-    read-result = settled noRecord (sizeOf card) wanted m readChecks tt
-
     pub read-begins : (b : Book) → cardNumber card (fedBy slots room reads) ≡ 0
         → Matches slots room s (reads .given) (readCall card m) (turn b (fedBy slots room reads))
     unfolding turn
     read-begins b e =
-        let z : firstRefusal allChecks ≡ 0 = read-gives .is ∙ e in
-        rw (sym (read-gives .is)) (begins b (cardBook card) (reads .given) noRecord (sizeOf card) nothing (λ n. refl) read-result z (read-reaches z))
+        let z : firstRefusal (readChecks card m) ≡ 0 = read-gives .is ∙ e in
+        rw (sym (read-gives .is)) (begins b (cardBook card) (reads .given) noRecord (sizeOf card) nothing (λ n. refl) (read-result card m) z (read-reaches z))
 
     pub read-first : (b : Book) → replyTo (reads .given) (readCall card m .reply) ≡ turn b (fedBy slots room reads) .reply
     unfolding turn
-    read-first b = rw (sym (read-gives .is)) (first-reply b (cardBook card) (reads .given) noRecord (sizeOf card) nothing (λ n. refl) (firstRefusal allChecks) s read-result read-reaches)
+    read-first b = rw (sym (read-gives .is)) (first-reply b (cardBook card) (reads .given) noRecord (sizeOf card) nothing (λ n. refl) (firstRefusal (readChecks card m)) s (read-result card m) read-reaches)
 
   pub read-matches : {slots room : ℕ} {b : Book} → Fine slots room b
       → Matches slots room (stationOf slots room b) (reads .given) (readCall card (memoryOf (stationOf slots room b) work)) (turn b (fedBy slots room reads))
@@ -161,5 +150,5 @@ module _ (card : List ℕ) (bytes : Bytes card) (work : List ℕ) where
   read-matches {slots} {room} {b} f =
       let s = stationOf slots room b in
       rw (sym (read-gives s (edge-slots f) (index-slots f) .is))
-      (matches b (cardBook card) (reads .given) noRecord (sizeOf card) nothing (λ n. refl) (firstRefusal (allChecks s (edge-slots f) (index-slots f))) (read-result s (edge-slots f) (index-slots f)) f
+      (matches b (cardBook card) (reads .given) noRecord (sizeOf card) nothing (λ n. refl) (firstRefusal (readChecks card (memoryOf s work))) (read-result card (memoryOf s work)) f
       (read-reaches s (edge-slots f) (index-slots f)))

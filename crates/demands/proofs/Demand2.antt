@@ -7,7 +7,7 @@ use native.Mathlib.Omega.{arith}
 use lib.Dec.{leb}
 use lib.ListN.{length, take, drop}
 use lib.Seq.{take-append-seam}
-use Rattle.model.specs.Limits.{mostEdges, leastWork, headBytes, tripleBytes}
+use Rattle.model.specs.Limits.{headBytes, tripleBytes}
 use Rattle.model.specs.Lists.{filled, Bytes}
 use Rattle.model.specs.Edges.{standing, totalsOf}
 use Rattle.model.specs.Computed.Edges.{edgeMemory?}
@@ -15,18 +15,17 @@ use Rattle.model.specs.Computed.Entries.{determined}
 use Rattle.model.proofs.Tests.{test-true, test-le}
 use Rattle.model.proofs.Memory.{edge-memory, edge-least, standing-filled, standing-some, filled-memory}
 use Rattle.model.proofs.Zeros.{filled-within}
-use Rattle.calls.specs.Checks.{vertices?, longest?, Check, firstRefusal}
+use Rattle.calls.specs.Checks.{vertices?, longest?, Check}
 use Rattle.calls.specs.Call.{Size, graphOf, Memory, Outcome, noRecord, Wrote, Length}
-use Rattle.calls.specs.Change.{handing, buildRoom?, fits?}
-use Rattle.calls.specs.Card.{sizeOf, countOf, edgesOf, cardOf, cardChecks, cardRefusal, readRefusal, readChange, readCall, writeRefusal, writeCall}
+use Rattle.calls.specs.Change.{handing, fits?}
+use Rattle.calls.specs.Card.{sizeOf, countOf, edgesOf, cardOf, readCall, writeRefusal, writeCall}
 use Rattle.calls.proofs.Checks.{none, pass, first-is, bounded, bounds-pass}
-use Rattle.calls.proofs.Change.{pass-first}
 use Rattle.calls.proofs.Card.{card-good, Cardable, CardSays, card-says, card-again}
-use Rattle.calls.proofs.Settling.{settledChange, settled}
+use Rattle.calls.proofs.Settling.{settledChange}
 use Rattle.calls.proofs.Passing.{passing}
 use Rattle.demands.specs.Demand2.{Roomy, Restores, Demand2}
 use Rattle.demands.proofs.Demand1.{kind, numberIn}
-use Rattle.demands.proofs.Reading.{Said, read-said}
+use Rattle.demands.proofs.Reading.{read-result, last-decides, Said, read-said}
 use Rattle.demands.proofs.Right.{open-right, insert-right, remove-right, read-right}
 
 -- ---- (b) a card that was written, read again
@@ -69,30 +68,14 @@ wrote h w {n} e = go (writeRefusal h w) refl e
 -- a card that passes its own checks is accepted if memory has room for it
 read-accepted : (card : List ℕ) (m : Memory) {h : Size} {edges : List ℕ} → CardSays card h edges → Roomy m (length edges) (length (determined (graphOf h edges)))
     → readCall card m ≡ handing noRecord h (settledChange h edges m)
-unfolding readCall readChange readRefusal
 read-accepted card m {h} {edges} says room =
-    let q : firstRefusal (cardChecks card ++ later) ≡ 0 = pass-first (cardChecks card) later tt (unfold cardRefusal in says .passes) ∙ rest in
-    settled noRecord (sizeOf card) (edgesOf (drop headBytes card)) m (cardChecks card ++ more) tt .accepted q
+    let slots : Roomy m (countOf card) (length (m .index))
+    = record { edge-slots = omega (arith, says .count, room .edge-slots); few = room .few; index-slots = omega arith; work = room .work } in
+    read-result card m .accepted (last-decides card m (says .passes) slots (pass thirteen none))
     ∙ ap₂ (λ (k : Size) (l : List ℕ). handing noRecord k (settledChange k l m)) (says .size-is) (says .edges-are)
   where
-    more : List Check
-    more = (3, leb (length (m .edges)) mostEdges) ∷ (9, leb (countOf card) (length (m .edges))) ∷ (4, buildRoom? m) ∷ []
-
-    later : List Check
-    later = more ++ ((13, fits? (sizeOf card) (edgesOf (drop headBytes card)) m) ∷ [])
-
     thirteen : fits? (sizeOf card) (edgesOf (drop headBytes card)) m ≡ true
     thirteen = ap₂ (λ (k : Size) (l : List ℕ). fits? k l m) (says .size-is) (says .edges-are) ∙ (test-true (test-le (length (determined (graphOf h edges))) (length (m .index))) (room .index-slots))
-
-    nine : leb (countOf card) (length (m .edges)) ≡ true
-    nine = rw (says .count) (test-true (test-le (length edges) (length (m .edges))) (room .edge-slots))
-
-    rest : firstRefusal later ≡ 0
-    rest =
-        first-is (pass (test-true (test-le (length (m .edges)) mostEdges) (room .few))
-        (pass nine
-        (pass (test-true (test-le (leastWork + length (m .index)) (length (m .work))) (room .work))
-        (pass thirteen none))))
 
 reading : (h : Size) (w : Memory) (n : ℕ) (m : Memory) → writeCall h w .reply ≡ Length n
     → Roomy m (length (standing (w .edges))) (length (determined (graphOf h (standing (w .edges)))))

@@ -1,9 +1,9 @@
 -- How much memory the layout of a card needs: what the program `size` tells.
 use mathlib.Core.Path.{_≡_}
 use mathlib.Core.List.{List}
-use Prim.Native.Nat.{ℕ, _+_, _≤_, _<_}
+use Prim.Native.Nat.{ℕ, _<_}
 use lib.ListN.{length, drop}
-use Rattle.model.specs.Limits.{mostEdges, leastWork, headBytes}
+use Rattle.model.specs.Limits.{headBytes}
 use Rattle.model.specs.Computed.Entries.{determined}
 use Rattle.calls.specs.Call.{graphOf, Memory}
 use Rattle.calls.specs.Card.{sizeOf, countOf, edgesOf, readCall}
@@ -13,11 +13,11 @@ use Rattle.demands.specs.Demand2.{Roomy}
 abbrev pub needed : List ℕ → ℕ
 needed card = length (determined (graphOf (sizeOf card) (edgesOf (drop headBytes card))))
 
--- whatever memory holds that the card is read into: with room for n entries it is accepted, and with fewer index slots it is refused with 13
+-- Whatever the memory holds that the card is read into: with room for n entries it is accepted. With room for as many entries as it has index slots,
+-- and these fewer than n, it is refused with 13.
 pub record Needs (card : List ℕ) (n : ℕ) : Type 0 where
   pub enough : (m : Memory) → Roomy m (countOf card) n → readCall card m .reply .answer ≡ 0
-  pub short : (m : Memory) → countOf card ≤ length (m .edges) → length (m .edges) ≤ mostEdges → leastWork + length (m .index) ≤ length (m .work)
-      → length (m .index) < n → readCall card m .reply .answer ≡ 13
+  pub short : (m : Memory) → Roomy m (countOf card) (length (m .index)) → length (m .index) < n → readCall card m .reply .answer ≡ 13
 
 -- every card that is accepted with some memory
 abbrev pub CardNeeds : Type 0

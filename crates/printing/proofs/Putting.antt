@@ -14,7 +14,7 @@ use Rattle.model.specs.Computed.Lists.{spread}
 use Rattle.model.specs.Computed.Query.{ownerOf, hubOf, codeOf}
 use Rattle.model.proofs.Lists.{spread-append, part-all, part-last}
 use Rattle.printing.specs.Puts.{Puts}
-use Rattle.printing.specs.Lines.{numeral, number, labels, space, newline, outWord, inWord, sideLine, entryLine, placesWord, longestWord, legsWord, entriesWord, counts, headerLine, numberLine, refusedWord, refusedLine, listing, indexWord, workWord, bytesWord, bytesOf, sizeLine, overWord, entriesEnd, overLine}
+use Rattle.printing.specs.Lines.{numeral, number, labels, space, newline, outWord, inWord, sideLine, entryLine, placesWord, longestWord, legsWord, entriesWord, counts, headerLine, numberLine, refusedWord, refusedLine, listing, indexWord, workWord, bytesEnd, bytesOf, sizeLine, overWord, entriesEnd, overLine}
 
 -- what is spread of one element more
 spread-snoc : (f : ℕ → List ℕ) (l : List ℕ) (x : ℕ) → spread f (l ++ (x ∷ [])) ≡ spread f l ++ f x
@@ -149,9 +149,9 @@ sized-nested : (a b c d e f : List ℕ) → a ++ (b ++ (c ++ (d ++ (e ++ f)))) �
 sized-nested a b c d e f = simp append-assoc
 
 pub sizes-is : (v k m n : ℕ) → sizeLine v k m n
-    ≡ ((counts v k m n ++ (indexWord ++ number (bytesOf n))) ++ (workWord ++ number (bytesOf (leastWork + n)))) ++ bytesWord
+    ≡ ((counts v k m n ++ (indexWord ++ number (bytesOf n))) ++ (workWord ++ number (bytesOf (leastWork + n)))) ++ bytesEnd
 unfolding sizeLine
-sizes-is v k m n = sized-nested (counts v k m n) indexWord (number (bytesOf n)) workWord (number (bytesOf (leastWork + n))) bytesWord
+sizes-is v k m n = sized-nested (counts v k m n) indexWord (number (bytesOf n)) workWord (number (bytesOf (leastWork + n))) bytesEnd
 
 pub over-is : (n : ℕ) → overLine n ≡ (overWord ++ number n) ++ entriesEnd
 unfolding overLine

@@ -95,8 +95,8 @@ abbrev pub workWord : List ℕ
 workWord = 32 ∷ 98 ∷ 121 ∷ 116 ∷ 101 ∷ 115 ∷ 32 ∷ 119 ∷ 111 ∷ 114 ∷ 107 ∷ 32 ∷ []
 
 -- " bytes", and the line ends
-abbrev pub bytesWord : List ℕ
-bytesWord = 32 ∷ 98 ∷ 121 ∷ 116 ∷ 101 ∷ 115 ∷ 10 ∷ []
+abbrev pub bytesEnd : List ℕ
+bytesEnd = 32 ∷ 98 ∷ 121 ∷ 116 ∷ 101 ∷ 115 ∷ 10 ∷ []
 
 -- the bytes of so many 64-bit numbers
 abbrev pub bytesOf : ℕ → ℕ
@@ -106,7 +106,7 @@ bytesOf n = n * 8
 -- one for each index slot where an index is built"
 unfoldable pub sizeLine : (vertices longest edges entries : ℕ) → List ℕ
 sizeLine vertices longest edges entries =
-    counts vertices longest edges entries ++ (indexWord ++ (number (bytesOf entries) ++ (workWord ++ (number (bytesOf (leastWork + entries)) ++ bytesWord))))
+    counts vertices longest edges entries ++ (indexWord ++ (number (bytesOf entries) ++ (workWord ++ (number (bytesOf (leastWork + entries)) ++ bytesEnd))))
 
 -- " entries", and the line ends
 abbrev pub entriesEnd : List ℕ

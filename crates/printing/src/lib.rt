@@ -1,5 +1,5 @@
-// The lines that the programs print, as bytes in lent memory: entries, the header, a refusal, numbers, and what a layout needs. Each function writes from `at` on, leaves
-// all other bytes as they were, and returns where its text ends.
+// The lines that the programs print, as bytes in lent memory: entries, the header, a refusal, numbers, and what a layout needs. Each function writes
+// from `at` on, leaves all other bytes as they were, and returns where its text ends.
 use model::HUB_UNIT;
 use model::LEAST_WORK;
 use model::MOST_LONGEST;
