@@ -15,13 +15,13 @@
  *            label 1, label 2, .. label 8. Totals let a query by a label that the layout lacks be told no at once. Each
  *            accepted open, insert, remove and read card counts them anew and hands them back in the record, whatever they
  *            were: you need not fill them in before a layout is opened or a card is read. Keep all the numbers with the
- *            edges and the index: with totals that are not those of the edges, rlc_query may reply a wrong no and is not
- *            refused. Only rlc_query looks at totals, and no call is refused for them.
+ *            edges and the index: with totals that are not those of the edges, rlc_query and rlc_query_two may reply a wrong
+ *            no and are not refused. Only these two look at totals, and no call is refused for them.
  *   edges    edge memory, 0 to 1,024 slots: one edge a slot, from * 4096 + label * 256 + to, strictly rising, then zeros
  *   index    index memory, any number of slots: one entry a slot, strictly rising, then zeros
  *   work     at least 4,096 numbers; if an index is built (insert, remove, read card), one more for each index slot.
  *            Contents do not matter. Zero after an accepted call and after refusals 13 and 18, else untouched. A query uses
- *            it only if its pattern repeats itself and no label of it has total 0 (see rlc_query).
+ *            it only if a pattern of it repeats itself and no label of it has total 0 (see rlc_query, rlc_query_two).
  *   walk     walk memory, any number of slots: a route's edges in running order, written as in edge memory
  *
  * A slice is a pointer and then its number of elements. Elements must be aligned as their C type asks. A slice of 0 elements
@@ -69,6 +69,10 @@
  * - rlc_query reads every slot of index memory that is lent, zeros too: 0.9 to 1.5 ns an entry, 0.3 ns a zero. Lend the slots
  *   that are needed and no more: with 262,144 slots for 380 entries a query took 130 times as long. By a label that the layout
  *   lacks it reads no memory, and takes 5 to 12 ns.
+ * - rlc_query_two checks index memory once, as rlc_query does, and reads one side of it again, out or in entries, for each
+ *   pattern that is written once. For a pattern that repeats itself it searches the edges once, however many middles there are;
+ *   for the second one it turns them round and sorts them first, 3 us for 1,024 of them. In all it takes 0.9 to 2.3 times as
+ *   long as rlc_query on the layouts of 1,024 edges at k 4.
  * - rlc_search and rlc_route search the edges, 2 to 4 us for 1,024 of them, and look at no index: if there are many entries,
  *   that is less than a query takes. A query by a pattern that repeats itself costs both.
  * - Work memory that is used is zeroed whole: lend RLC_WORK_N(0) numbers to a call that builds no index.
@@ -78,11 +82,12 @@
  *
  * Nothing is shared behind your back: calls on different memory may run at the same time, and an interrupt may make a call on
  * memory of its own while another call runs. Memory that a call was lent must not be changed by anyone else until it returns.
- * rlc_query, rlc_search, rlc_route and rlc_write_card only read the record, edges and index: any number of them may run side
- * by side on the same ones as long as nobody changes these, if each has its own work and walk memory and output (a query that
- * needs no work memory may be lent none). rlc_open, rlc_insert, rlc_remove and rlc_read_card write the record, edges, index
- * and work, and must have them to themselves until they return, even if they are then refused: in between these are half
- * done. A call that is abandoned and not returned from leaves them so; open the layout or read its card again.
+ * rlc_query, rlc_query_two, rlc_search, rlc_route and rlc_write_card only read the record, edges and index: any number of
+ * them may run side by side on the same ones as long as nobody changes these, if each has its own work and walk memory and
+ * output (a query that needs no work memory may be lent none). rlc_open, rlc_insert, rlc_remove and rlc_read_card write the
+ * record, edges, index and work, and must have them to themselves until they return, even if they are then refused: in
+ * between these are half done. A call that is abandoned and not returned from leaves them so; open the layout or read its
+ * card again.
  *
  *
  * STACK
@@ -91,6 +96,7 @@
  * measures it on x86-64; the tests hold these figures to it. memset, which the library takes from your C library, is in it
  * with nothing but its return address.
  *
+ *   rlc_query_two                                              31 KiB
  *   rlc_insert, rlc_remove, rlc_read_card                      18 KiB
  *   rlc_query                                                  17 KiB
  *   rlc_minimum_repeat                                          5 KiB
@@ -98,13 +104,13 @@
  *   rlc_open, rlc_write_card                                    1 KiB
  *   rlc_minimum_repeat_computed, rlc_times_written              1 KiB
  *
- * A query by a label that the layout lacks takes below 1 KiB.
+ * A query by a label that the layout lacks takes below 1 KiB, and half of the above if it is by two patterns.
  *
  *
  * WHAT IT IS BUILT FOR
  *
  * `rt staticlib`, which makes librlc_c.a, compiles for x86-64 and Linux (an ELF object, System V calling convention, fit for
- * position-independent programs), and for nothing else today. The library is 21 KB of code and constants, has no data of its
+ * position-independent programs), and for nothing else today. The library is 28 KB of code and constants, has no data of its
  * own, makes no system call, computes with integers alone (in SSE2 registers too, which an interrupt has to save), and asks
  * one function of the program that it is linked into, memset. The proofs do not depend on the processor. For another one the
  * kit's compiler has to learn it; C and C++ programs need nothing but this header.
@@ -121,7 +127,7 @@ extern "C" {
 
 /* This interface: its first number times 100 and its second. A program written for another first number has to be changed
  * (docs/CHANGES.md says where). */
-#define RLC_VERSION 400
+#define RLC_VERSION 401
 
 /* Sizes: numbers of a record; numbers of work memory to build an index in so many slots (with 0 slots: for a query, a search or a
  * route); bytes of a card with so many edges. */
@@ -129,16 +135,17 @@ extern "C" {
 #define RLC_WORK_N(slots) (4096 + (slots))
 #define RLC_CARD_N(edges) (9 + 3 * (edges))
 
-/* The parts of a 64-bit reply, of rlc_search, rlc_route and rlc_write_card: yes, no, spent or the refusal; the levels built;
- * the edges of a route or the bytes of a card. */
+/* The parts of a 64-bit reply, of rlc_query_two, rlc_search, rlc_route and rlc_write_card: yes, no, spent or the refusal; the
+ * middle of a query by two patterns; the levels built; the edges of a route or the bytes of a card. */
 #define RLC_REPLY(x) ((uint32_t)((x) >> 32))
+#define RLC_MIDDLE(x) ((uint32_t)(x))
 #define RLC_LEVELS(x) ((uint32_t)(x))
 #define RLC_LENGTH(x) ((uint32_t)(x))
 
 /* Replies. */
 enum {
     RLC_ACCEPTED = 0,    /* of open, insert, remove, read card; of write card, with the card's length */
-    RLC_NO = 0,          /* of query, search and route */
+    RLC_NO = 0,          /* of query, query two, search and route */
     RLC_YES = 100,       /* of these */
     RLC_SPENT = 101,     /* of search: neither yes nor no within the level limit */
     RLC_BAD_RECORD = 255 /* the record lent does not have RLC_RECORD_N numbers; nothing is touched */
@@ -195,6 +202,36 @@ uint32_t rlc_remove(uint32_t *record, size_t record_n, uint32_t from, uint32_t l
  *   record, edge and index memory that the last accepted change left the reply is right. */
 uint32_t rlc_query(const uint32_t *record, size_t record_n, uint32_t start, uint32_t destination, const uint8_t *pattern, size_t pattern_n,
                    const uint32_t *edges, size_t edges_n, const uint64_t *index, size_t index_n, uint64_t *work, size_t work_n);
+
+/* Asks whether some vertex m, the middle, has both: a walk from start to m that runs the first pattern, and a walk from m to
+ * destination that runs the second, each as keyed and one or more whole times. Start or destination is a middle as well if
+ * walks lead there: standing still is no walk. Returns 100 * 2^32 + m for yes, m the lowest middle; 0 for no; else the
+ * refusal * 2^32. A record of another length gives 255 * 2^32. So:
+ *
+ *     uint64_t reply = rlc_query_two(...);
+ *     if (RLC_REPLY(reply) == RLC_YES)
+ *         printf("yes, by way of %u\n", (unsigned)RLC_MIDDLE(reply));
+ *     else if (RLC_REPLY(reply) == RLC_NO)
+ *         printf("no\n");
+ *     else
+ *         printf("refused %u\n", (unsigned)RLC_REPLY(reply));
+ *
+ * Refusals 1 2 10 come first, then 11 for the first pattern, then 11 for the second. Then, as in rlc_query:
+ *
+ * - With a label, in either pattern, whose total in the record is 0: no. Edges, index and work are not looked at and stay
+ *   as they are; all three may have length 0.
+ * - Otherwise, both patterns written once: refusal 12, then the index replies. Edges and work are not looked at and stay as
+ *   they are; both may have length 0.
+ * - Otherwise, one of the patterns repeating itself or both: refusals 12 3 4. By a pattern that repeats itself the edges are
+ *   searched, by one written once the index is asked. The call needs at least 4,096 numbers of work memory; unless it is
+ *   refused, all the work memory lent is zero afterwards, after a yes and after a no.
+ *
+ * Whatever record and memory are lent, m is a middle exactly if rlc_query, put with the same ones, would reply yes from
+ * start to m by the first pattern and yes from m to destination by the second. On those that the last accepted change left
+ * the reply is right; of edge memory this matters only if a pattern repeats itself. */
+uint64_t rlc_query_two(const uint32_t *record, size_t record_n, uint32_t start, uint32_t destination, const uint8_t *first, size_t first_n,
+                       const uint8_t *second, size_t second_n, const uint32_t *edges, size_t edges_n, const uint64_t *index, size_t index_n,
+                       uint64_t *work, size_t work_n);
 
 /* Searches level by level, without the index, for a walk that runs the pattern as keyed; at most level_limit
  * levels are built, and 1,025 always suffice.

@@ -21,6 +21,10 @@ static uint64_t index_memory[SLOTS], work[RLC_WORK_N(SLOTS)];
 static uint8_t card[RLC_CARD_N(1)];
 static const uint8_t pattern[LABELS] = {1, 1}; /* its first label, or both */
 
+/* A layout of two edges. */
+static uint32_t there_and_back[RLC_RECORD_N] = {2, 2}, two_edges[2];
+static uint64_t two_index[SLOTS];
+
 #define WIDE(reply, more) (((uint64_t)(reply) << 32) + (more))
 #define IS_UINT32(x) (sizeof(x) == sizeof(uint32_t) && (x) * 0 - 1 > 0)
 
@@ -40,12 +44,15 @@ static const uint8_t pattern[LABELS] = {1, 1}; /* its first label, or both */
     FACT(card_n_outside, 2 * RLC_CARD_N(1 + 1) == 30)                         \
     FACT(card_array, sizeof card == 12)                                       \
     FACT(reply_of_constant, RLC_REPLY(WIDE(100, 7)) == 100)                   \
+    FACT(middle_of_constant, RLC_MIDDLE(WIDE(100, 7)) == 7)                   \
     FACT(levels_of_constant, RLC_LEVELS(WIDE(100, 7)) == 7)                   \
     FACT(length_of_constant, RLC_LENGTH(WIDE(100, 7)) == 7)                   \
     FACT(reply_type, IS_UINT32(RLC_REPLY(WIDE(100, 7))))                      \
+    FACT(middle_type, IS_UINT32(RLC_MIDDLE(WIDE(100, 7))))                    \
     FACT(levels_type, IS_UINT32(RLC_LEVELS(WIDE(100, 7))))                    \
     FACT(length_type, IS_UINT32(RLC_LENGTH(WIDE(100, 7))))                    \
     FACT(reply_type_of_sum, IS_UINT32(RLC_REPLY(WIDE(99, 7) + WIDE(1, 0))))   \
+    FACT(middle_type_of_sum, IS_UINT32(RLC_MIDDLE(WIDE(99, 7) + WIDE(1, 0)))) \
     FACT(levels_type_of_sum, IS_UINT32(RLC_LEVELS(WIDE(99, 7) + WIDE(1, 0)))) \
     FACT(length_type_of_sum, IS_UINT32(RLC_LENGTH(WIDE(99, 7) + WIDE(1, 0)))) \
     FACT(reply_bad_record, RLC_REPLY(WIDE(255, 0)) == RLC_BAD_RECORD)         \
@@ -91,15 +98,19 @@ static void fact(const char *name, int holds) {
 /* The parts of a reply that is not known as this is compiled, and of expressions. */
 static void parts(uint64_t a, uint64_t b, int first) {
     fact("the reply of a variable", RLC_REPLY(a) == 100 && RLC_REPLY(b) == 155);
+    fact("the middle of a variable", RLC_MIDDLE(a) == 7 && RLC_MIDDLE(b) == 0xFFFFFFF9);
     fact("the levels of a variable", RLC_LEVELS(a) == 7 && RLC_LEVELS(b) == 0xFFFFFFF9);
     fact("the length of a variable", RLC_LENGTH(a) == 7 && RLC_LENGTH(b) == 0xFFFFFFF9);
     fact("the reply of a sum", RLC_REPLY(a + b) == 256);
+    fact("the middle of a sum", RLC_MIDDLE(a + b) == 0);
     fact("the levels of a sum", RLC_LEVELS(a + b) == 0);
     fact("the length of a sum", RLC_LENGTH(a + b) == 0);
     fact("the reply of a choice", RLC_REPLY(first ? a : b) == 100);
+    fact("the middle of a choice", RLC_MIDDLE(first ? a : b) == 7);
     fact("the levels of a choice", RLC_LEVELS(first ? a : b) == 7);
     fact("the length of a choice", RLC_LENGTH(first ? a : b) == 7);
     fact("twice a part", 2 * RLC_REPLY(a) == 200 && 2 * RLC_LEVELS(a) == 14 && 2 * RLC_LENGTH(a) == 14);
+    fact("twice a middle", 2 * RLC_MIDDLE(a) == 14);
 }
 
 static uint32_t opened(size_t record_n) {
@@ -117,6 +128,13 @@ static uint32_t removed(size_t work_n) {
 
 static uint32_t queried(size_t labels, size_t work_n) {
     return rlc_query(record, RLC_RECORD_N, 0, 1, pattern, labels, edges, 1, index_memory, SLOTS, work, work_n);
+}
+
+/* Back to where it came from, by the first label of the pattern or both, and then by label 2. */
+static uint64_t queried_two(size_t record_n, uint32_t start, size_t labels, size_t work_n) {
+    static const uint8_t second[1] = {2};
+    return rlc_query_two(there_and_back, record_n, start, start, pattern, labels, second, 1, two_edges, 2, two_index, SLOTS, work,
+                         work_n);
 }
 
 static uint64_t searched(size_t record_n, uint32_t level_limit, size_t work_n) {
@@ -162,6 +180,27 @@ static void questions(void) {
     fact("route, a record too short", RLC_REPLY(routed(RLC_RECORD_N - 1, 1, enough)) == RLC_BAD_RECORD);
 }
 
+/* In the layout of two edges: from 0 with label 1 to 1, from 1 with label 2 to 0. */
+static void two_patterns(void) {
+    const size_t enough = RLC_WORK_N(0), all = RLC_WORK_N(SLOTS);
+    uint64_t reply;
+    fact("open, for two edges", rlc_open(there_and_back, RLC_RECORD_N, two_edges, 2, two_index, SLOTS) == RLC_ACCEPTED);
+    fact("insert, the first of two edges",
+         rlc_insert(there_and_back, RLC_RECORD_N, 0, 1, 1, two_edges, 2, two_index, SLOTS, work, all) == RLC_ACCEPTED);
+    fact("insert, the second of two edges",
+         rlc_insert(there_and_back, RLC_RECORD_N, 1, 2, 0, two_edges, 2, two_index, SLOTS, work, all) == RLC_ACCEPTED);
+    reply = queried_two(RLC_RECORD_N, 0, 1, 0);
+    fact("query two by 1 and 2", RLC_REPLY(reply) == RLC_YES && RLC_MIDDLE(reply) == 1);
+    fact("query two by 1 and 2, from 1", queried_two(RLC_RECORD_N, 1, 1, 0) == RLC_NO);
+    fact("query two by 1,1 and 2", queried_two(RLC_RECORD_N, 0, 2, enough) == RLC_NO);
+    reply = queried_two(RLC_RECORD_N, 0, 2, enough - 1);
+    fact("query two by 1,1 and 2, too little work memory", RLC_REPLY(reply) == RLC_WORK_MEMORY && RLC_MIDDLE(reply) == 0);
+    reply = queried_two(RLC_RECORD_N, 0, 0, enough);
+    fact("query two, no first label", RLC_REPLY(reply) == RLC_QUERY_PATTERN && RLC_MIDDLE(reply) == 0);
+    reply = queried_two(RLC_RECORD_N - 1, 0, 1, enough);
+    fact("query two, a record too short", RLC_REPLY(reply) == RLC_BAD_RECORD && RLC_MIDDLE(reply) == 0);
+}
+
 /* The card is written, read, and its edge removed. */
 static void cards(void) {
     uint64_t reply = written(RLC_RECORD_N, RLC_CARD_N(1) - 1);
@@ -188,6 +227,7 @@ int main(void) {
     parts(WIDE(100, 7), WIDE(155, 0xFFFFFFF9), 1);
     changes();
     questions();
+    two_patterns();
     cards();
     repeats();
     if (!failed)

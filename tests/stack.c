@@ -25,11 +25,11 @@ enum {
     QUESTIONS = 150,
     STACK = 256 * 1024,
     IN_REGISTERS = 6,
-    ARGUMENTS = 12,
+    ARGUMENTS = 14,
     SITUATIONS = 400
 };
 
-enum id { OPEN, INSERT, REMOVE, QUERY, SEARCH, ROUTE, READ_CARD, WRITE_CARD, REPEAT, COMPUTED, TIMES };
+enum id { OPEN, INSERT, REMOVE, QUERY, QUERY_TWO, SEARCH, ROUTE, READ_CARD, WRITE_CARD, REPEAT, COMPUTED, TIMES };
 
 struct function {
     const char *name;
@@ -45,6 +45,7 @@ static const struct function functions[] = {
     [INSERT] = FUNCTION(rlc_insert, 11, 0),
     [REMOVE] = FUNCTION(rlc_remove, 11, 0),
     [QUERY] = FUNCTION(rlc_query, 12, 0),
+    [QUERY_TWO] = FUNCTION(rlc_query_two, 14, 1),
     [SEARCH] = FUNCTION(rlc_search, 11, 1),
     [ROUTE] = FUNCTION(rlc_route, 12, 1),
     [READ_CARD] = FUNCTION(rlc_read_card, 10, 0),
@@ -65,6 +66,7 @@ static struct situation situations[SITUATIONS];
 static size_t situation_n;
 
 static const char ANY[] = "", ONCE[] = "written once, ", TWICE[] = "repeating itself, ", LACKING[] = "a lacking label, ";
+static const char BOTH_TWICE[] = "both repeating themselves, "; /* of two patterns; one of them: TWICE */
 static const char *const lengths[] = {"no labels, ", "1 label, ", "2 labels, ", "3 labels, ", "4 labels, ", "5 labels, "};
 
 /* Every reply of every function. The replies end with -1. */
@@ -80,6 +82,11 @@ static const struct {
     {QUERY, ONCE, {0, 100, -1}},
     {QUERY, TWICE, {0, 100, -1}},
     {QUERY, LACKING, {0, -1}},
+    {QUERY_TWO, ANY, {1, 2, 3, 4, 10, 11, 12, 255, -1}},
+    {QUERY_TWO, ONCE, {0, 100, -1}},
+    {QUERY_TWO, TWICE, {0, 100, -1}},
+    {QUERY_TWO, BOTH_TWICE, {0, 100, -1}},
+    {QUERY_TWO, LACKING, {0, -1}},
     {SEARCH, ANY, {0, 1, 2, 3, 4, 10, 11, 100, 101, 255, -1}},
     {ROUTE, ANY, {0, 1, 2, 3, 4, 10, 11, 18, 100, 255, -1}},
     {READ_CARD, ANY, {0, 2, 3, 4, 9, 13, 14, 15, 16, 255, -1}},
@@ -313,10 +320,10 @@ struct question {
     size_t labels;
 };
 
-/* The labels of a walk from some edge on, between its ends: a yes. */
-static void along(struct question *q) {
+/* The labels of a walk from a vertex on, between its ends: a yes. No labels if no edge starts there. */
+static void along_from(struct question *q, uint32_t start) {
     size_t at = below((uint32_t)edge_n), tried = 0, most = 1 + below(kept_record[1]);
-    q->start = q->destination = kept_edges[at] / 4096;
+    q->start = q->destination = start;
     for (q->labels = 0; q->labels < most && tried < edge_n; at = (at + 1) % edge_n, tried++)
         if (kept_edges[at] / 4096 == q->destination) {
             q->pattern[q->labels++] = (uint8_t)(kept_edges[at] / 256 % 16);
@@ -324,6 +331,10 @@ static void along(struct question *q) {
             at = below((uint32_t)edge_n);
             tried = 0;
         }
+}
+
+static void along(struct question *q) {
+    along_from(q, kept_edges[below((uint32_t)edge_n)] / 4096);
 }
 
 /* Any ends and labels; every second pattern is some first labels again and again. */
@@ -358,14 +369,45 @@ static void ask(const struct question *q) {
     vary(ROUTE, route, 9, 0);
 }
 
+/* The query by the first's pattern and then the second's, from the first's start to the second's destination. */
+static void ask_two(const struct question *first, const struct question *second) {
+    uint64_t a[ARGUMENTS] = {AT(record),          RLC_RECORD_N,   first->start, second->destination, AT(first->pattern), first->labels,
+                             AT(second->pattern), second->labels, AT(edges),    EDGES,               AT(index_memory),   SLOTS,
+                             AT(work),            RLC_WORK_N(0)};
+    const char *kinds[2] = {kind_of(first), kind_of(second)}, *kind = kinds[0];
+    if (kinds[0] == LACKING || kinds[1] == LACKING)
+        kind = LACKING;
+    else if (kinds[0] == TWICE && kinds[1] == TWICE)
+        kind = BOTH_TWICE;
+    else if (kinds[1] == TWICE)
+        kind = TWICE;
+    measure(QUERY_TWO, a, kind);
+}
+
+/* The same labels once more, if there may be so many: more patterns that repeat themselves, and a yes where a walk has them. */
+static void write_twice(struct question *q) {
+    for (size_t i = 0, n = q->labels; 2 * n <= kept_record[1] && i < n; i++)
+        q->pattern[q->labels++] = q->pattern[i];
+}
+
 static void questions(void) {
-    struct question q;
+    struct question q, second;
     for (int i = 0; i < QUESTIONS; i++) {
         if (i % 3 == 0)
             along(&q);
         else
             anywhere(&q);
         ask(&q);
+        if (i % 3 == 0)
+            along_from(&second, q.destination);
+        else
+            anywhere(&second);
+        if (i % 2 == 0)
+            write_twice(&q);
+        if (i % 4 < 2)
+            write_twice(&second);
+        if (second.labels > 0)
+            ask_two(&q, &second);
     }
 }
 
@@ -389,7 +431,14 @@ static void refused_questions(void) {
                                   1025,       AT(edges),    EDGES, AT(work), RLC_WORK_N(0)};
     uint64_t route[ARGUMENTS] = {AT(record), RLC_RECORD_N, 0,        0,     AT(pattern), 2,
                                  AT(edges),  EDGES,        AT(walk), EDGES, AT(work),    RLC_WORK_N(0)};
+    uint64_t two[ARGUMENTS] = {AT(record), RLC_RECORD_N, 0,     0,                AT(pattern), 2,        AT(pattern),
+                               2,          AT(edges),    EDGES, AT(index_memory), SLOTS,       AT(work), RLC_WORK_N(0)};
     refuse_question(QUERY, query, 7, 11);
+    refuse_question(QUERY_TWO, two, 9, 13);
+    vary(QUERY_TWO, two, 7, 0);
+    vary(QUERY_TWO, two, 7, 5);
+    two[11] = 2;
+    vary(QUERY_TWO, two, 10, AT(falling));
     refuse_question(SEARCH, search, 8, 10);
     refuse_question(ROUTE, route, 7, 11);
     query[9] = 2;

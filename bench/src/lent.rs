@@ -10,6 +10,8 @@ extern "C" {
                   index: *mut u64, slots: usize, work: *mut u64, w: usize) -> u32;
     pub fn rlc_query(record: *const u32, n: usize, start: u32, destination: u32, pattern: *const u8, p: usize,
                  edges: *const u32, m: usize, index: *const u64, slots: usize, work: *mut u64, w: usize) -> u32;
+    fn rlc_query_two(record: *const u32, n: usize, start: u32, destination: u32, first: *const u8, p: usize, second: *const u8, q: usize,
+                     edges: *const u32, m: usize, index: *const u64, slots: usize, work: *mut u64, w: usize) -> u64;
     fn rlc_search(record: *const u32, n: usize, start: u32, destination: u32, pattern: *const u8, p: usize, limit: u32,
                   edges: *const u32, m: usize, work: *mut u64, w: usize) -> u64;
     fn rlc_route(record: *const u32, n: usize, start: u32, destination: u32, pattern: *const u8, p: usize,
@@ -48,6 +50,10 @@ impl Lent {
 
     pub fn longest(&self) -> u32 {
         self.record[1]
+    }
+
+    pub fn record(&self) -> &[u32; RECORD_N] {
+        &self.record
     }
 
     /// How many edges have the label, as the last change counted.
@@ -93,6 +99,13 @@ impl Lent {
         self.query_with(rlc_query, s, t, pattern, 1025)
     }
 
+    /// The query by two patterns with the least work memory.
+    pub fn query_two(&mut self, s: u32, t: u32, first: &[u8], second: &[u8]) -> u64 {
+        let (record, p, q) = (self.record.as_ptr(), (first.as_ptr(), first.len()), (second.as_ptr(), second.len()));
+        let (e, i, work) = ((self.edges.as_ptr(), self.edges.len()), (self.index.as_ptr(), self.index.len()), self.work.as_mut_ptr());
+        unsafe { rlc_query_two(record, RECORD_N, s, t, p.0, p.1, q.0, q.1, e.0, e.1, i.0, i.1, work, 4096) }
+    }
+
     /// The plain check with the least work memory.
     pub fn search(&mut self, s: u32, t: u32, pattern: &[u8]) -> u64 {
         let (record, p) = (self.record.as_ptr(), pattern.len());
@@ -124,4 +137,21 @@ pub fn draw_joined(random: &mut Random, lent: &Lent) -> (u32, u32, Vec<u8>) {
 pub fn draw(random: &mut Random, lent: &Lent) -> (u32, u32, Vec<u8>) {
     let (_, _, pattern) = draw_joined(random, lent);
     (random.below(lent.record[0]), random.below(lent.record[0]), pattern)
+}
+
+/// How many labels a pattern of at most k that repeats itself has in front, and how often these are written.
+pub fn repetition(random: &mut Random, lent: &Lent) -> (usize, usize) {
+    if lent.longest() == 2 {
+        (1, 2)
+    } else {
+        [(1, 2), (1, 3), (1, 4), (2, 2)][random.below(4) as usize]
+    }
+}
+
+/// A pattern of at most k labels, written twice or more, of the labels 1 to 4 that the layout has.
+pub fn repeated(random: &mut Random, lent: &Lent) -> Vec<u8> {
+    let labels: Vec<u8> = (1..=4).filter(|&label| lent.total(label) > 0).collect();
+    let (length, times) = repetition(random, lent);
+    let once: Vec<u8> = (0..length).map(|_| labels[random.below(labels.len() as u32) as usize]).collect();
+    once.repeat(times)
 }

@@ -234,8 +234,9 @@ fn is_entry(vertices: u32, longest: u32, x: u64) -> bool {
     x >> 32 < 2 && x >> 24 & 255 < vertices as u64 && x >> 16 & 255 < vertices as u64 && is_code(longest, x & 65535)
 }
 
-/// Check 12 and the question, for a pattern that is its own minimum repeat. None if check 12 fails.
-pub fn query(vertices: u32, longest: u32, s: u64, t: u64, code: u64, index: &[u64]) -> Option<bool> {
+/// Check 12: the entries without the zeros behind them, or none if it fails.
+#[inline(always)]
+pub fn checked(vertices: u32, longest: u32, index: &[u64]) -> Option<&[u64]> {
     let count = index.iter().position(|&x| x == 0).unwrap_or(index.len());
     let (entries, zeros) = index.split_at(count);
     let mut last = 0;
@@ -248,6 +249,12 @@ pub fn query(vertices: u32, longest: u32, s: u64, t: u64, code: u64, index: &[u6
     if zeros.iter().any(|&x| x != 0) {
         return None;
     }
+    Some(entries)
+}
+
+/// Check 12 and the question, for a pattern that is its own minimum repeat. None if check 12 fails.
+pub fn query(vertices: u32, longest: u32, s: u64, t: u64, code: u64, index: &[u64]) -> Option<bool> {
+    let entries = checked(vertices, longest, index)?;
     let list = |key: u64| {
         let from = entries.partition_point(|&x| x < key);
         let to = entries.partition_point(|&x| x < key + (1 << 24));

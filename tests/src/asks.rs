@@ -1,5 +1,5 @@
 //! Queries, plain checks and routes on what a list of changes left, whole and with entries struck out, held to whether
-//! a walk of the ledger's edges runs the pattern as keyed.
+//! a walk of the ledger's edges runs the pattern as keyed; and queries by two patterns.
 
 use crate::calls::{keyed, repeats_itself, Check, Memory};
 use crate::compare::{Tester, YES};
@@ -9,6 +9,7 @@ use crate::ledger::Fed;
 use crate::record::Record;
 use crate::reference::*;
 use crate::routes;
+use crate::two;
 
 /// What the questions are about: the layout that the ledger holds, and its edges; the record handed back, and the
 /// change that left all this.
@@ -52,6 +53,7 @@ pub fn ask(t: &mut Tester, ground: &Ground, memory: &mut Memory) {
         ask_from_to(t, ground, memory, start, destination, vec![label as u8; times]);
     }
     ask_lacking(t, ground, memory);
+    two::ask(t, ground, memory);
 }
 
 /// Questions by every shape that k allows, on what a list has left.

@@ -10,6 +10,7 @@ use crate::records;
 use crate::reference::*;
 use crate::routes;
 use crate::trials::{CARD_A, LAYOUT_A, SLOTS_A};
+use crate::two;
 
 pub fn run(t: &mut Tester) {
     t.part = "bounds";
@@ -182,8 +183,25 @@ fn of_largest(t: &mut Tester, edges: &[Edge], memory: &mut Memory) {
             routes::ask_in(t, record, &check, &lent);
         }
     }
+    two_in_largest(t, edges, memory);
     memory.work = t.rng.words(memory.index.len() + 4096);
     t.change(false, &mut record, edges[500], memory);
+}
+
+/// By two patterns that lead somewhere: written once, the first or the second keyed twice, and both.
+fn two_in_largest(t: &mut Tester, edges: &[Edge], memory: &Memory) {
+    for (out, home) in [(1, 1), (2, 1), (1, 2), (2, 2)] {
+        let check = loop {
+            if let Some(check) = gen::along(&mut t.rng, edges, 4) {
+                break check;
+            }
+        };
+        let (first, second) = (check.pattern[..2].repeat(out), check.pattern[2..].repeat(home));
+        let asked = two::two(check.start, check.destination, &first, &second);
+        let mut lent = Memory { work: t.rng.words(4096), ..memory.clone() };
+        let reply = t.query_two(Record::counted([256, 4], edges), &asked, &mut lent);
+        t.expect("a query by two patterns in the largest layout", reply, two::walked(edges, &asked));
+    }
 }
 
 /// A search through all 1,024 pairs of vertex and labels used, one to a level, and its route of as many edges.

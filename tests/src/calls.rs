@@ -5,7 +5,8 @@
 //! If an earlier condition applies, a later one is judged as far as it has a meaning: 7, 8, 9, 13, 17 and 18 if edge
 //! memory reads as rising edges of some layout, 13 by patterns of at most 2 labels (longer ones only add
 //! entries), 18 also by patterns of too many labels, and a query's 3 and 4 if its pattern is labels that repeat
-//! themselves, also too many of them, and its 12, 3 and 4 unless a label of the pattern has total 0.
+//! themselves, also too many of them, and its 12, 3 and 4 unless a label of the pattern has total 0. Of a query by two
+//! patterns the same is said of either pattern.
 
 use crate::record::{Header, Record};
 use crate::reference::*;
@@ -162,23 +163,98 @@ pub fn full_query(
     pattern: &[u8],
     memory: &mut Memory,
 ) -> (Refusals, bool) {
-    let [vertices, longest] = header;
     let again = repeats_itself(pattern);
     let mut refusals = question_checks(header, start, destination, pattern);
-    refusals.extend(applying(&[
-        (12, !is_index(&memory.index, vertices, longest)),
-        (3, again && bad_edges(&memory.edges, vertices)),
-        (4, again && memory.work.len() < WORK),
-    ]));
+    refusals.extend(memory_checks(header, again, memory));
     if !refusals.is_empty() {
         return (refusals, false);
     }
-    if !again {
-        return (refusals, answer(&memory.index, start, destination, &keyed(pattern)));
+    if again {
+        memory.work.fill(0);
     }
-    memory.work.fill(0);
-    let edges = standing(&memory.edges).unwrap();
-    (refusals, spelled_ends(&edges, start, &keyed(pattern)).contains(&destination))
+    (refusals, is_yes(start, destination, pattern, memory))
+}
+
+/// 12, and 3 and 4 if a pattern repeats itself.
+fn memory_checks(header: Header, again: bool, memory: &Memory) -> Refusals {
+    let [vertices, longest] = header;
+    applying(&[
+        (12, !is_index(&memory.index, vertices, longest)),
+        (3, again && bad_edges(&memory.edges, vertices)),
+        (4, again && memory.work.len() < WORK),
+    ])
+}
+
+/// The full reply to a question that is past its checks.
+fn is_yes(start: u32, destination: u32, pattern: &[u8], memory: &Memory) -> bool {
+    if repeats_itself(pattern) {
+        let edges = standing(&memory.edges).unwrap();
+        spelled_ends(&edges, start, &keyed(pattern)).contains(&destination)
+    } else {
+        answer(&memory.index, start, destination, &keyed(pattern))
+    }
+}
+
+/// What a query by two patterns (document 02, Five) is asked: out by the first, home by the second.
+#[derive(Clone, Debug)]
+pub struct Two {
+    pub start: u32,
+    pub destination: u32,
+    pub first: Vec<u8>,
+    pub second: Vec<u8>,
+}
+
+/// The vertices m for which the single question from the start to m by the first pattern would be a yes, and those for
+/// which the one from m to the destination by the second would be. Both rise.
+#[derive(Clone, Debug, Default, PartialEq)]
+pub struct Middles {
+    pub out: Vec<u32>,
+    pub home: Vec<u32>,
+}
+
+impl Middles {
+    /// "m counts where the two single questions, from the start to m and from m to the destination, would both be a
+    /// yes."
+    pub fn counting(&self) -> Vec<u32> {
+        self.out.iter().copied().filter(|m| self.home.contains(m)).collect()
+    }
+
+    /// "The lowest such m is given with the yes."
+    pub fn lowest(&self) -> Option<u32> {
+        self.counting().first().copied()
+    }
+}
+
+/// The query by two patterns: its refusals, and the middles, none if there are refusals or a total is 0. "Checks are
+/// those of two questions, the first pattern's 11 before the second's. A colour of total 0 in either pattern is then a
+/// no; else 12 follows, and 3 and 4 if either pattern repeats itself." With these checks past, and m a vertex, neither
+/// single question would be refused.
+pub fn query_two(record: &Record, two: &Two, memory: &mut Memory) -> (Refusals, Middles) {
+    let mut refusals = two_checks(record.header, two);
+    if record.lacks(&two.first) || record.lacks(&two.second) {
+        return (refusals, Middles::default());
+    }
+    let again = repeats_itself(&two.first) || repeats_itself(&two.second);
+    refusals.extend(memory_checks(record.header, again, memory));
+    if !refusals.is_empty() {
+        return (refusals, Middles::default());
+    }
+    if again {
+        memory.work.fill(0);
+    }
+    let vertices = 0..record.header[0];
+    let out = vertices.clone().filter(|m| is_yes(two.start, *m, &two.first, memory)).collect();
+    let home = vertices.filter(|m| is_yes(*m, two.destination, &two.second, memory)).collect();
+    (refusals, Middles { out, home })
+}
+
+/// 11 once, if it applies to either pattern.
+fn two_checks(header: Header, two: &Two) -> Refusals {
+    let mut refusals = question_checks(header, two.start, two.destination, &two.first);
+    let of_second = question_checks(header, two.start, two.destination, &two.second);
+    refusals.extend(of_second.into_iter().filter(|number| *number == 11));
+    refusals.dedup();
+    refusals
 }
 
 /// What a plain check is asked. A route is asked the same; its allowance has no meaning.

@@ -1,7 +1,7 @@
 //! Each public call put to the library and to the second implementation, and the two compared: reply, record, and
 //! everything lent, with guard words on both sides.
 
-use crate::calls::{self, Check, Memory, Refusals};
+use crate::calls::{self, Check, Memory, Middles, Refusals, Two};
 use crate::cases::Routed;
 use crate::counts::{Call, Counts};
 use crate::lent::Lent;
@@ -12,6 +12,7 @@ use crate::record_cases::Handed;
 use crate::records;
 use crate::reference::{minimum_repeat, runs, standing, totals, Edge, Found, Totals};
 use crate::rng::Rng;
+use crate::two_cases::AskedTwo;
 use std::fmt::Debug;
 
 pub const YES: u32 = 100;
@@ -175,6 +176,53 @@ impl Tester {
         let edges = standing(&memory.edges).unwrap();
         let folded = yes || runs(&edges, start, destination, &minimum_repeat(&calls::keyed(pattern)));
         self.counts.add_again(yes, folded);
+    }
+
+    /// The query by two patterns. Returns (0 no, 100 yes, or a refusal; the lowest middle, or 0); work memory becomes
+    /// what the call leaves.
+    pub fn query_two(&mut self, record: Record, two: &Two, memory: &mut Memory) -> (u32, u32) {
+        let mut lent_record = self.lend_record(&record);
+        let mut first = self.lend(&two.first, |n| n as u8);
+        let mut second = self.lend(&two.second, |n| n as u8);
+        let (mut edges, mut index, mut work) = self.lend_memory(memory);
+        let found_zero = memory.work.iter().all(|word| *word == 0);
+        let replied = calls::query_two(&record, two, memory);
+        let expected = self.count_two(&record, two, memory, found_zero, &replied);
+        let (r, s, t) = (lent_record.pointer(), two.start, two.destination);
+        let (p, q) = ((first.pointer(), first.len()), (second.pointer(), second.len()));
+        let (e, i, w) = ((edges.pointer(), edges.len()), (index.pointer(), index.len()), (work.pointer(), work.len()));
+        let got = unsafe { rlc_query_two(r, RECORD_N, s, t, p.0, p.1, q.0, q.1, e.0, e.1, i.0, i.1, w.0, w.1) };
+        let got = ((got >> 32) as u32, got as u32);
+        let call = || format!("query_two {record:?} {two:?} {}", show(memory));
+        self.same_reply(&call, got, expected);
+        self.same(&call, "record", &lent_record, &record.numbers());
+        self.same(&call, "first pattern", &first, &two.first);
+        self.same(&call, "second pattern", &second, &two.second);
+        self.same(&call, "edge memory", &edges, &memory.edges);
+        self.same(&call, "index memory", &index, &memory.index);
+        self.same(&call, "work memory", &work, &memory.work);
+        expected
+    }
+
+    /// Counts a query by two patterns that the second implementation replied to. Returns the reply as numbers.
+    fn count_two(
+        &mut self,
+        record: &Record,
+        two: &Two,
+        memory: &Memory,
+        found_zero: bool,
+        replied: &(Refusals, Middles),
+    ) -> (u32, u32) {
+        let mut full = replied.clone();
+        if record.lacks(&two.first) || record.lacks(&two.second) {
+            full = calls::query_two(&Record { totals: [1; 8], ..*record }, two, &mut memory.clone());
+        }
+        self.counts.add_two(&AskedTwo { record, two, memory, found_zero, replied, full });
+        let number = self.count(Call::QueryTwo, &replied.0, stood(&memory.edges), record, record);
+        match replied.1.lowest() {
+            Some(m) => (YES, m),
+            None => (number, 0),
+        }
     }
 
     /// The plain check. Returns (0 no, 100 yes, 101 spent, or a refusal; levels).

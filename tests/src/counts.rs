@@ -1,11 +1,12 @@
 //! How often each call was accepted, gave each refusal, and had each pair of refusals apply at once (the
 //! earlier one returned); how the questions by patterns that repeat themselves were answered; and the named cases of
-//! routes, queries, records and full replies.
+//! routes, queries, queries by two patterns, records and full replies.
 
 use crate::cases::{self, Routed};
 use crate::full_reply;
 use crate::query_cases::{self, Asked};
 use crate::record_cases::{self, Handed};
+use crate::two_cases::{self, AskedTwo};
 use std::collections::BTreeMap;
 
 #[derive(Clone, Copy, PartialEq, Eq, PartialOrd, Ord, Debug)]
@@ -14,18 +15,20 @@ pub enum Call {
     Insert,
     Remove,
     Query,
+    QueryTwo,
     Search,
     Route,
     ReadCard,
     WriteCard,
 }
 
-/// Each call's refusals in document 01's order, with document 02's for the query and the route.
-pub const ORDERS: [(Call, &[u32]); 8] = [
+/// Each call's refusals in document 01's order, with document 02's for the queries and the route.
+pub const ORDERS: [(Call, &[u32]); 9] = [
     (Call::Open, &[1, 2, 3]),
     (Call::Insert, &[1, 2, 3, 4, 5, 6, 7, 9, 13]),
     (Call::Remove, &[1, 2, 3, 4, 5, 6, 8, 13]),
     (Call::Query, &[1, 2, 10, 11, 12, 3, 4]),
+    (Call::QueryTwo, &[1, 2, 10, 11, 12, 3, 4]),
     (Call::Search, &[1, 2, 3, 4, 10, 11]),
     (Call::Route, &[1, 2, 3, 4, 10, 11, 18]),
     (Call::ReadCard, &[14, 15, 2, 16, 3, 9, 4, 13]),
@@ -48,6 +51,7 @@ pub const OTHER_LENGTHS: [usize; 9] = [0, 1, 2, 3, 4, 9, 11, 20, 100];
 /// Groups of cases.
 const ROUTE: &str = "Route";
 const QUERY: &str = "Query";
+const TWO: &str = "QueryTwo";
 const LIST: &str = "List";
 const LENGTH: &str = "Records of other lengths";
 
@@ -111,6 +115,10 @@ impl Counts {
         }
     }
 
+    pub fn add_two(&mut self, asked: &AskedTwo) {
+        asked.cases().iter().for_each(|case| self.add_case(TWO, case));
+    }
+
     pub fn add_record(&mut self, handed: &Handed) {
         let group = of_records(handed.call);
         handed.cases().iter().for_each(|case| self.add_case(&group, case));
@@ -140,7 +148,8 @@ impl Counts {
     fn report_cases(&self, missing: &mut Vec<String>) {
         let routes = cases::CASES.iter().map(|case| case.0.to_string()).collect();
         let queries = query_cases::CASES.iter().map(|case| case.0.to_string()).collect();
-        for (group, needed) in [(ROUTE, routes), (QUERY, queries), (LIST, full_reply::needed())] {
+        let groups = [(ROUTE, routes), (QUERY, queries), (TWO, two_cases::needed()), (LIST, full_reply::needed())];
+        for (group, needed) in groups {
             let counted = self.counted(group, needed, missing);
             counted.iter().for_each(|(case, count)| println!("{group}: {case}: {count}"));
         }

@@ -1,7 +1,7 @@
 //! Calls on memory that was left by calls, that holds other right content, and that is damaged, with right and
 //! wrong arguments.
 
-use crate::calls::{Check, Memory};
+use crate::calls::{Check, Memory, Two};
 use crate::compare::Tester;
 use crate::gen::{self, Layout};
 use crate::record::{Header, Record};
@@ -99,7 +99,27 @@ fn questions(t: &mut Tester, layout: &Layout, record: Record, edges: &[Edge], me
         if t.rng.one_in(2) {
             routes::ask_in(t, record, &check, memory);
         }
+        if t.rng.one_in(3) {
+            two_patterns(t, layout, record, edges, memory, check);
+        }
     }
+}
+
+/// By the same pattern and another one, in either order.
+fn two_patterns(t: &mut Tester, layout: &Layout, record: Record, edges: &[Edge], memory: &Memory, check: Check) {
+    let Check { start, destination, pattern: mut first, .. } = check;
+    let mut second = any_pattern(t, layout);
+    if t.rng.one_in(2) {
+        (first, second) = (second, first);
+    }
+    let mut asked = record;
+    if !t.rng.one_in(4) {
+        asked = records::having(&mut t.rng, record.header, edges, &[&first[..], &second].concat());
+    }
+    let two = Two { start, destination, first, second };
+    t.query_two(asked, &two, &mut memory.clone());
+    let mut dirty = gen::dirty(&mut t.rng, &memory.index);
+    t.query_two(asked, &two, &mut dirty);
 }
 
 fn changes(t: &mut Tester, layout: &Layout, record: Record, edges: &[Edge], memory: &Memory) {

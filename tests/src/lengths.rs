@@ -72,11 +72,13 @@ fn put(t: &mut Tester, n: usize, all: &mut All) {
         // By 1, and by 1,1, which repeats itself.
         for labels in [1, 2] {
             t.expect("query, 255", rlc_query(r, n, 0, 1, p, labels, e, 3, i, 20, w, 4116), 255);
+            t.expect("query_two, 255", rlc_query_two(r, n, 0, 1, p, labels, p, 1, e, 3, i, 20, w, 4116), wide);
+            t.expect("query_two, 255", rlc_query_two(r, n, 0, 1, p, 1, p, labels, e, 3, i, 20, w, 4116), wide);
             t.expect("search, 255", rlc_search(r, n, 0, 1, p, labels, 5, e, 3, w, 4116), wide);
             t.expect("route, 255", rlc_route(r, n, 0, 1, p, labels, e, 3, l, 4, w, 4116), wide);
         }
         t.expect("read_card, 255", rlc_read_card(r, n, c, 18, e, 3, i, 20, w, 4116), 255);
         t.expect("write_card, 255", rlc_write_card(r, n, e, 3, o, 30), wide);
     }
-    t.calls += 11;
+    t.calls += 15;
 }

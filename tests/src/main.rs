@@ -39,6 +39,8 @@ mod selfcheck;
 mod shortest;
 mod size;
 mod trials;
+mod two;
+mod two_cases;
 
 use compare::Tester;
 use rng::Rng;
@@ -71,6 +73,7 @@ fn main() {
         routes::round(&mut t);
         handed::round(&mut t);
         lacking::round(&mut t);
+        two::round(&mut t);
     }
     let missing = t.counts.report();
     missing.iter().for_each(|line| println!("MISSING: {line}"));
@@ -85,7 +88,7 @@ fn main() {
 
 /// The parts that are no rounds, each with the calls and the time so far.
 fn fixed_parts(t: &mut Tester, begin: Instant) {
-    let parts: [(&str, fn(&mut Tester)); 8] = [
+    let parts: [(&str, fn(&mut Tester)); 9] = [
         ("trials", trials::run),
         ("bounds", bounds::run),
         ("lengths", lengths::run),
@@ -93,6 +96,7 @@ fn fixed_parts(t: &mut Tester, begin: Instant) {
         ("handed", handed::run),
         ("lacking", lacking::run),
         ("routes", routes::run),
+        ("two", two::run),
         ("repeats", |t| repeats::run(t, REPEAT_TABLE)),
     ];
     for (name, run) in parts {

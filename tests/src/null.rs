@@ -1,7 +1,7 @@
 //! Null pointers: every slice of every function lent with no elements, by a valid pointer and by a null one. Both give
 //! the reply of the table below and of the second implementation, and leave everything else as that does.
 
-use crate::calls::{card_of, Check, Memory};
+use crate::calls::{card_of, Check, Memory, Two};
 use crate::compare::{Tester, SPENT, YES};
 use crate::gen::edge_memory;
 use crate::lent::Lent;
@@ -17,6 +17,8 @@ struct Given {
     record: Vec<u32>,
     edge: Edge,
     check: Check,
+    /// The second pattern of two; the first is the check's.
+    second: Vec<u8>,
     memory: Memory,
     walk: Vec<u32>,
     card: Vec<u8>,
@@ -91,6 +93,41 @@ const CASES: &[Case] = &[
     ("query", &["edges", "index", "work"], twice, 4),
     ("query", &["pattern", "edges", "index", "work"], in_a, 11),
     ("query", &["record", "pattern", "edges", "index", "work"], in_a, 255),
+
+    ("query_two", &["record"], in_a, 255 * WIDE),
+    ("query_two", &["first"], in_a, 11 * WIDE),
+    ("query_two", &["first"], second_lacking, 11 * WIDE),
+    ("query_two", &["second"], in_a, 11 * WIDE),
+    ("query_two", &["second"], lacking, 11 * WIDE),
+    ("query_two", &["edges"], in_a, Y * WIDE + 1), // the index replies
+    ("query_two", &["edges"], back, 0),
+    ("query_two", &["edges"], second_twice, 0), // no edges to search
+    ("query_two", &["edges"], lacking, 0),
+    ("query_two", &["edges"], swapped, 12 * WIDE),
+    ("query_two", &["index"], in_a, 0), // from an empty index
+    ("query_two", &["index"], second_twice, 0), // the first pattern is asked of the index
+    ("query_two", &["index"], both_twice, Y * WIDE + 2), // the edges reply
+    ("query_two", &["index"], second_lacking, 0),
+    ("query_two", &["index"], bare, 0),
+    ("query_two", &["index"], overstated, 0),
+    ("query_two", &["work"], in_a, Y * WIDE + 1),
+    ("query_two", &["work"], back, 0),
+    ("query_two", &["work"], second_lacking, 0),
+    ("query_two", &["work"], twice, 4 * WIDE),
+    ("query_two", &["work"], second_twice, 4 * WIDE),
+    ("query_two", &["work"], both_twice, 4 * WIDE),
+    ("query_two", &["first", "second"], in_a, 11 * WIDE),
+    ("query_two", &["edges", "index"], both_twice, 0),
+    ("query_two", &["edges", "work"], in_a, Y * WIDE + 1),
+    ("query_two", &["edges", "work"], swapped, 12 * WIDE),
+    ("query_two", &["edges", "work"], second_twice, 4 * WIDE),
+    ("query_two", &["edges", "index", "work"], in_a, 0),
+    ("query_two", &["edges", "index", "work"], lacking, 0),
+    ("query_two", &["edges", "index", "work"], second_lacking, 0),
+    ("query_two", &["edges", "index", "work"], bare, 0),
+    ("query_two", &["edges", "index", "work"], both_twice, 4 * WIDE),
+    ("query_two", &["first", "second", "edges", "index", "work"], in_a, 11 * WIDE),
+    ("query_two", &["record", "first", "second", "edges", "index", "work"], in_a, 255 * WIDE),
 
     ("search", &["record"], in_a, 255 * WIDE),
     ("search", &["pattern"], in_a, 11 * WIDE),
@@ -229,8 +266,26 @@ fn twice(given: &mut Given) {
     given.check.pattern = vec![1, 1];
 }
 
+/// A second pattern that repeats itself, by way of 0.
+fn second_twice(given: &mut Given) {
+    given.check.pattern = vec![1, 2];
+    given.second = vec![1, 1];
+}
+
+/// Both patterns repeat themselves, by way of 2, which has an edge to itself.
+fn both_twice(given: &mut Given) {
+    twice(given);
+    given.second = vec![8, 8];
+    given.memory.edges = edge_memory(&[&LAYOUT_A[..], &[(2, 8, 2)]].concat(), 5);
+    given.record[9] = 1;
+}
+
 fn lacking(given: &mut Given) {
     given.check.pattern = vec![3];
+}
+
+fn second_lacking(given: &mut Given) {
+    given.second = vec![3];
 }
 
 /// From 2 to 0: no.
@@ -248,7 +303,7 @@ fn swapped(given: &mut Given) {
 }
 
 impl Given {
-    /// Layout A with room for more, an edge to insert, and a question with reply yes.
+    /// Layout A with room for more, an edge to insert, and a question with reply yes, by two patterns too.
     fn in_a() -> Given {
         let mut index = SLOTS_A.to_vec();
         index.resize(20, 0);
@@ -256,6 +311,7 @@ impl Given {
             record: Record::counted([3, 2], &LAYOUT_A).numbers().to_vec(),
             edge: (2, 8, 0),
             check: Check { start: 0, destination: 2, pattern: vec![1], allowed: 1025 },
+            second: vec![1],
             memory: Memory { edges: edge_memory(&LAYOUT_A, 5), index, work: vec![5; 4116] },
             walk: vec![6; 4],
             card: CARD_A.to_vec(),
@@ -266,7 +322,8 @@ impl Given {
     fn empty(&mut self, slice: &str) {
         match slice {
             "record" => self.record.clear(),
-            "pattern" => self.check.pattern.clear(),
+            "pattern" | "first" => self.check.pattern.clear(),
+            "second" => self.second.clear(),
             "edges" => self.memory.edges.clear(),
             "index" => self.memory.index.clear(),
             "work" => self.memory.work.clear(),
@@ -291,6 +348,12 @@ impl Given {
             "read_card" => t.read_card_into(&mut record, &self.card, memory) as u64,
             "minimum_repeat" | "minimum_repeat_computed" => t.minimum_repeat(&check.pattern).0 as u64,
             "times_written" => t.minimum_repeat(&check.pattern).1 as u64,
+            "query_two" => {
+                let (start, destination) = (check.start, check.destination);
+                let two = Two { start, destination, first: check.pattern.clone(), second: self.second.clone() };
+                let (reply, m) = t.query_two(record, &two, memory);
+                wide(reply, m as u64)
+            }
             "search" => {
                 let (reply, levels) = t.search(record, check, memory);
                 wide(reply, levels as u64)
@@ -315,6 +378,7 @@ impl Given {
 struct All {
     record: Lent<u32>,
     pattern: Lent<u8>,
+    second: Lent<u8>,
     edges: Lent<u32>,
     index: Lent<u64>,
     work: Lent<u64>,
@@ -334,6 +398,7 @@ impl All {
             walk: Lent::new(&given.walk, 82),
             card: Lent::new(&given.card, 83),
             output: Lent::new(&given.output, 84),
+            second: Lent::new(&given.second, 85),
         }
     }
 
@@ -341,7 +406,7 @@ impl All {
     fn put(&mut self, function: &str, given: &Given, null: bool) -> u64 {
         let (r, p, e) = (at(&mut self.record, null), at(&mut self.pattern, null), at(&mut self.edges, null));
         let (i, w, l) = (at(&mut self.index, null), at(&mut self.work, null), at(&mut self.walk, null));
-        let (c, o) = (at(&mut self.card, null), at(&mut self.output, null));
+        let (c, o, q) = (at(&mut self.card, null), at(&mut self.output, null), at(&mut self.second, null));
         let (f, b, t) = given.edge;
         let Check { start: s, destination: d, allowed, .. } = given.check;
         unsafe {
@@ -350,6 +415,7 @@ impl All {
                 "insert" => rlc_insert(r.0, r.1, f, b, t, e.0, e.1, i.0, i.1, w.0, w.1) as u64,
                 "remove" => rlc_remove(r.0, r.1, f, b, t, e.0, e.1, i.0, i.1, w.0, w.1) as u64,
                 "query" => rlc_query(r.0, r.1, s, d, p.0, p.1, e.0, e.1, i.0, i.1, w.0, w.1) as u64,
+                "query_two" => rlc_query_two(r.0, r.1, s, d, p.0, p.1, q.0, q.1, e.0, e.1, i.0, i.1, w.0, w.1),
                 "search" => rlc_search(r.0, r.1, s, d, p.0, p.1, allowed, e.0, e.1, w.0, w.1),
                 "route" => rlc_route(r.0, r.1, s, d, p.0, p.1, e.0, e.1, l.0, l.1, w.0, w.1),
                 "read_card" => rlc_read_card(r.0, r.1, c.0, c.1, e.0, e.1, i.0, i.1, w.0, w.1) as u64,

@@ -2,7 +2,7 @@
 //! now and then a third. The compared calls say which refusals did apply, and the counts at the end which
 //! pairs were reached.
 
-use crate::calls::{card_of, keyed, repeats_itself, Check, Memory, EDGES};
+use crate::calls::{card_of, keyed, repeats_itself, Check, Memory, Two, EDGES};
 use crate::compare::Tester;
 use crate::counts::{Call, ORDERS};
 use crate::gen::{self, Layout};
@@ -45,6 +45,7 @@ fn put(t: &mut Tester, call: Call, forced: &[u32]) {
         Call::Insert => change(t, true, forced),
         Call::Remove => change(t, false, forced),
         Call::Query => query(t, forced),
+        Call::QueryTwo => query_two(t, forced),
         Call::Search => search(t, forced),
         Call::Route => route(t, forced),
         Call::ReadCard => read_card(t, forced),
@@ -224,6 +225,58 @@ fn query(t: &mut Tester, forced: &[u32]) {
     let lacking = records::lacking(&mut t.rng, layout.header, &edges, &check.pattern);
     t.query(having, check.start, check.destination, &check.pattern, &mut memory.clone());
     t.query(lacking, check.start, check.destination, &check.pattern, &mut memory);
+}
+
+/// A pattern of at most k labels that repeats itself, or one written once.
+fn written(t: &mut Tester, layout: &Layout, again: bool) -> Vec<u8> {
+    if again {
+        let length = t.rng.from_to(2, layout.header[1] as usize);
+        return gen::repeating_pattern(&mut t.rng, layout, length);
+    }
+    loop {
+        let pattern = gen::pattern(&mut t.rng, layout);
+        if !repeats_itself(&pattern) {
+            return pattern;
+        }
+    }
+}
+
+/// For 3 and 4 the first pattern repeats itself, or the second, or both; for 11 the first is wrong, or the second, or
+/// both. Patterns written once get dirty memory as well. Each input is put twice: with no total of 0 for a label of the
+/// patterns, and with one for a label of one of them.
+fn query_two(t: &mut Tester, forced: &[u32]) {
+    let (mut layout, mut edges) = layout_and_edges(t);
+    let again = forced.contains(&3) || forced.contains(&4);
+    if again {
+        layout.header[1] = layout.header[1].max(2);
+    }
+    let longest = layout.header[1] as usize;
+    let slots = force_edges(t, forced, &mut layout, &mut edges, false);
+    let check = force_question(t, forced, &layout);
+    let kind = if again { t.rng.from_to(1, 3) } else { t.rng.below(if longest > 1 { 4 } else { 1 }) };
+    let mut patterns = [1, 2].map(|bit| written(t, &layout, kind & bit > 0));
+    let wrong = t.rng.from_to(1, 3);
+    for i in (0..2).filter(|i| forced.contains(&11) && wrong >> i & 1 > 0) {
+        patterns[i] = gen::bad_pattern(&mut t.rng, &layout);
+        if again && !patterns.iter().any(|pattern| repeats_itself(pattern)) {
+            let length = longest + t.rng.pick(&[1, 2, 3, 4, 300]);
+            patterns[i] = gen::repeating_pattern(&mut t.rng, &layout, length);
+        }
+    }
+    let index = force_entries(t, forced, &layout, &edges);
+    let work = if forced.contains(&4) { gen::short_work(&mut t.rng, 0) } else { gen::enough_work(&mut t.rng, 0) };
+    let mut memory = Memory { edges: slots, index, work: t.rng.words(work) };
+    if !patterns.iter().any(|pattern| repeats_itself(pattern)) && t.rng.one_in(2) {
+        memory = gen::dirty(&mut t.rng, &memory.index);
+    }
+    force_header(t, forced, &mut layout);
+    let having = records::having(&mut t.rng, layout.header, &edges, &patterns.concat());
+    let lacked = t.rng.pick(&patterns);
+    let lacking = records::lacking(&mut t.rng, layout.header, &edges, &lacked);
+    let [first, second] = patterns;
+    let two = Two { start: check.start, destination: check.destination, first, second };
+    t.query_two(having, &two, &mut memory.clone());
+    t.query_two(lacking, &two, &mut memory);
 }
 
 fn search(t: &mut Tester, forced: &[u32]) {

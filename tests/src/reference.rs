@@ -170,6 +170,12 @@ pub fn spelled_ends(edges: &[Edge], start: u32, pattern: &[u32]) -> BTreeSet<u32
     }
 }
 
+/// Document 02, Five: the lowest m with "a walk from the start running the first pattern and a walk from m to the
+/// destination running the second, each at least one whole time".
+pub fn middle(edges: &[Edge], start: u32, destination: u32, first: &[u32], second: &[u32]) -> Option<u32> {
+    spelled_ends(edges, start, first).into_iter().find(|m| spelled_ends(edges, *m, second).contains(&destination))
+}
+
 /// side × 2^32 + owner × 2^24 + hub × 2^16 + code; the code's hexadecimal digits are the labels.
 pub fn entry_number(side: u64, owner: u32, hub: u32, pattern: &[u32]) -> u64 {
     let code = pattern.iter().fold(0, |code, label| code * 16 + *label as u64);

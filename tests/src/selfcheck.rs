@@ -1,14 +1,17 @@
 //! The second implementation held to facts that documents 01, 02 and 004 print.
 
-use crate::calls::{self, full_query, keyed, query, Check, Memory};
+use crate::calls::{self, full_query, keyed, query, query_two, Check, Memory, Middles};
 use crate::compare::YES;
 use crate::gen;
 use crate::ledger::{Fed, Ledger, Slots};
 use crate::record::Record;
+use crate::records;
 use crate::reference::*;
 use crate::rng::Rng;
 use crate::shortest::*;
-use crate::trials::{table_2_slots, CARD_A, FIGURE_2, KEYED_TWICE, LAYOUT_A, LAYOUT_B, ROUTES, SLOTS_A, TOTALS_A};
+use crate::trials::{table_2_slots, CARD_A, FIGURE_2, KEYED_TWICE, LAYOUT_A, LAYOUT_B};
+use crate::trials::{ROUTES, SLOTS_A, TOTALS_A, TWO_PATTERNS};
+use crate::two::two;
 
 pub fn run() {
     counted_totals();
@@ -18,6 +21,8 @@ pub fn run() {
     keyed_twice();
     routes_by_hand();
     routes_both_ways();
+    middles_by_hand();
+    middles_by_singles();
     let a: Vec<Edge> = CARD_A[9..].chunks(3).map(|b| (b[0] as u32, b[1] as u32, b[2] as u32)).collect();
     assert_eq!(a, LAYOUT_A);
     assert_eq!(determined(&a, 2), SLOTS_A);
@@ -185,5 +190,67 @@ fn both_ways(edges: &[Edge], check: &Check) {
             assert_eq!(walks.unwrap().into_iter().min(), found);
         }
         None => assert!(walks.is_none_or(|walks| walks.is_empty()) && matches!(levels, Found::No(_))),
+    }
+}
+
+/// The lowest middle by the walks, and by the index and the edges.
+fn middles_by_hand() {
+    for (header, edges, start, destination, first, second, lowest) in TWO_PATTERNS {
+        assert_eq!(middle(edges, start, destination, &keyed(first), &keyed(second)), lowest);
+        let index = determined(edges, header[1]);
+        let mut memory = Memory { edges: gen::edge_memory(edges, edges.len()), index, work: vec![7; 4096] };
+        let record = Record::counted(header, edges);
+        let (refusals, middles) = query_two(&record, &two(start, destination, first, second), &mut memory);
+        assert_eq!((refusals, middles.lowest()), (vec![], lowest));
+    }
+    let middles = Middles { out: vec![0, 3, 5, 7], home: vec![1, 3, 4, 7] };
+    assert_eq!((middles.counting(), middles.lowest()), (vec![3, 7], Some(3)));
+    let mut a = memory_of_a();
+    let record = Record::counted([3, 2], &LAYOUT_A);
+    let (_, middles) = query_two(&record, &two(0, 2, &[1], &[1]), &mut a);
+    assert_eq!(middles, Middles { out: vec![1, 2], home: vec![0, 1] });
+    assert_eq!(query_two(&record, &two(3, 2, &[], &[9, 9]), &mut a).0, [10, 11, 12][..2]);
+    assert_eq!(a, memory_of_a());
+    a.index.swap(0, 1);
+    assert_eq!(query_two(&record, &two(3, 2, &[1], &[9, 9]), &mut a).0, [10, 11, 12]);
+    assert_eq!(query_two(&record, &two(0, 2, &[3], &[9, 9]), &mut a).0, [11]);
+    assert_eq!(query_two(&record, &two(0, 2, &[3], &[1]), &mut a).0, []);
+    a.work.truncate(4095);
+    assert_eq!(query_two(&record, &two(0, 2, &[1], &[2, 2]), &mut a).0, [12, 4]);
+}
+
+/// "m counts where the two single questions, from the start to m and from m to the destination, would both be a yes":
+/// by whole single questions, each with its own checks, on records and memory of which some are right.
+fn middles_by_singles() {
+    let mut rng = Rng::new(5);
+    for _ in 0..3000 {
+        let mut layout = gen::layout(&mut rng);
+        layout.header[0] = layout.header[0].min(6);
+        let edges = gen::edges(&mut rng, &layout, 10);
+        let mut index =
+            if rng.one_in(2) { determined(&edges, layout.header[1]) } else { gen::any_index(&mut rng, &layout, 30) };
+        let mut slots = gen::edge_memory(&edges, 11);
+        if rng.one_in(8) {
+            gen::damage_index(&mut rng, layout.header, &mut index);
+        }
+        if rng.one_in(8) {
+            gen::damage_edges(&mut rng, layout.header[0], &mut slots);
+        }
+        let work = rng.pick(&[4095, 4096, 4096, 4096]);
+        let mut memory = Memory { edges: slots, index, work: vec![7; work] };
+        let [first, second] = [0, 1].map(|_| {
+            if rng.one_in(9) {
+                gen::bad_pattern(&mut rng, &layout)
+            } else {
+                gen::pattern(&mut rng, &layout)
+            }
+        });
+        let asked = two(gen::vertex(&mut rng, &layout), gen::vertex(&mut rng, &layout), &first, &second);
+        let record = records::any(&mut rng, layout.header, &edges);
+        let single =
+            |from, to, pattern: &[u8]| query(&record, from, to, pattern, &mut memory.clone()) == (vec![], true);
+        let lowest =
+            (0..layout.header[0]).find(|m| single(asked.start, *m, &first) && single(*m, asked.destination, &second));
+        assert_eq!(query_two(&record, &asked, &mut memory).1.lowest(), lowest);
     }
 }

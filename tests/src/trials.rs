@@ -1,11 +1,12 @@
 //! The trial runs of documents 01 and 02, with their own expectations, and Table II of document 004.
 
-use crate::calls::{card_of, Check, Memory};
+use crate::calls::{card_of, repeats_itself, Check, Memory};
 use crate::compare::{Tester, SPENT, YES};
 use crate::gen;
 use crate::record::{Header, Record};
 use crate::records;
 use crate::reference::*;
+use crate::two::{reply_of, two};
 
 pub const CARD_A: [u8; 18] =
     [0x50, 0x52, 0x43, 0x00, 0x01, 0x02, 0x02, 0x00, 0x03, 0x00, 0x01, 0x01, 0x01, 0x01, 0x02, 0x01, 0x02, 0x00];
@@ -104,6 +105,65 @@ pub const ROUTES: [Route; 21] = [
     ([256, 4], &[(255, 8, 255)], 255, 255, &[8], &[1046783]),
 ];
 
+/// Vertices and k, edges, start, destination, the two patterns, and the lowest middle, none for a no.
+pub type TwoPatterns = (Header, &'static [Edge], u32, u32, &'static [u8], &'static [u8], Option<u32>);
+
+const PAIR: &[Edge] = &[(0, 1, 1), (1, 2, 2)];
+const FORK: &[Edge] = &[(0, 1, 1), (0, 1, 2), (1, 2, 3), (2, 2, 3)];
+const FURTHER: &[Edge] = &[(0, 1, 3), (1, 2, 2), (3, 1, 1), (3, 2, 2)];
+const BACK: &[Edge] = &[(0, 2, 2), (1, 1, 1), (1, 1, 2), (2, 2, 2)];
+const FAR: &[Edge] = &[(254, 1, 255), (255, 2, 253)];
+
+/// Document 02, Five, worked out by hand. Behind each is where the walks by the first pattern end; from where those by
+/// the second lead to the destination.
+pub const TWO_PATTERNS: [TwoPatterns; 45] = [
+    ([3, 2], &LAYOUT_A, 0, 0, &[1], &[2], Some(1)),       // 1, 2; 1
+    ([3, 2], &LAYOUT_A, 0, 2, &[1, 2], &[1], Some(0)),    // 0; 0, 1
+    ([3, 2], &LAYOUT_A, 0, 0, &[1], &[1], None),          // 1, 2; none
+    ([3, 2], &LAYOUT_A, 0, 2, &[1], &[1], Some(1)),       // 1, 2; 0, 1
+    ([3, 2], &LAYOUT_A, 0, 2, &[1, 1], &[1], None),       // 2; 0, 1
+    ([3, 2], &LAYOUT_A, 0, 2, &[1], &[1, 1], None),       // 1, 2; 0
+    ([3, 2], &LAYOUT_A, 1, 2, &[2], &[1, 1], Some(0)),    // 0; 0
+    ([3, 2], &LAYOUT_A, 1, 2, &[2], &[1], Some(0)),       // 0; 0, 1
+    ([3, 2], &LAYOUT_A, 0, 0, &[2], &[1], None),          // none; none
+    ([3, 2], &LAYOUT_A, 0, 1, &[2], &[1], None),          // none; 0: the start, to which no walk leads
+    ([3, 2], &LAYOUT_A, 0, 1, &[1], &[2], None),          // 1, 2; none: 1 is the destination
+    ([3, 2], &LAYOUT_A, 0, 1, &[1, 2], &[1], Some(0)),    // 0; 0: the start, to which a walk leads back
+    ([3, 2], &LAYOUT_A, 0, 1, &[1], &[2, 1], Some(1)),    // 1, 2; 1: the destination
+    ([3, 2], &LAYOUT_A, 1, 1, &[2], &[1], Some(0)),       // 0; 0
+    ([3, 2], &LAYOUT_A, 1, 1, &[2, 1], &[2, 1], Some(1)), // 1; 1
+    ([3, 2], &LAYOUT_A, 0, 0, &[1, 2], &[1, 2], Some(0)), // 0; 0
+    ([3, 2], &LAYOUT_A, 0, 0, &[1, 2], &[2, 1], None),    // 0; none
+    ([3, 2], &LAYOUT_A, 2, 0, &[1], &[2], None),          // none; 1
+    ([3, 2], &LAYOUT_A, 0, 0, &[3], &[2], None),          // no edge has label 3
+    ([3, 2], &LAYOUT_A, 0, 0, &[1], &[3, 3], None),
+    ([3, 2], PAIR, 0, 2, &[1], &[2], Some(1)),              // 1; 1
+    ([3, 2], PAIR, 0, 2, &[1, 1], &[2], None),              // none; 1: one edge, the label keyed twice
+    ([3, 2], PAIR, 0, 2, &[1], &[2, 2], None),              // 1; none
+    ([3, 2], PAIR, 0, 2, &[1, 1], &[2, 2], None),           // none; none
+    ([3, 2], PAIR, 0, 2, &[2], &[1], None),                 // none; none
+    ([4, 1], FORK, 0, 3, &[1], &[2], Some(1)),              // 1, 2; 1, 2
+    ([4, 1], FURTHER, 0, 2, &[1], &[2], Some(1)),           // 1, 3; 1, 3: 1 is the further one
+    ([4, 2], FURTHER, 0, 2, &[1, 1], &[2], Some(1)),        // 1; 1, 3
+    ([3, 2], BACK, 0, 2, &[2], &[2], Some(2)),              // 2; 0, 2: the start is lower, and no walk leads to it
+    ([3, 2], BACK, 1, 1, &[1], &[1], Some(1)),              // 1, 2; 1
+    ([3, 2], BACK, 0, 2, &[2, 2], &[2], Some(2)),           // 2; 0, 2
+    ([3, 2], BACK, 1, 2, &[1], &[1, 1], Some(1)),           // 1, 2; 1: by the loop, then on
+    ([3, 2], BACK, 1, 2, &[1, 1], &[2, 2], Some(2)),        // 1, 2; 0, 2
+    ([5, 4], PATH, 0, 4, &[1], &[1], Some(1)),              // 1, 2, 3, 4; 0, 1, 2, 3
+    ([5, 4], PATH, 0, 4, &[1, 1], &[1], Some(2)),           // 2, 4; 0, 1, 2, 3
+    ([5, 4], PATH, 0, 4, &[1], &[1, 1], Some(2)),           // 1, 2, 3, 4; 0, 2
+    ([5, 4], PATH, 0, 4, &[1, 1, 1], &[1, 1], None),        // 3; 0, 2
+    ([5, 4], PATH, 0, 4, &[1, 1, 1], &[1], Some(3)),        // 3; 0, 1, 2, 3
+    ([3, 4], TRIANGLE, 0, 1, &[1, 1, 1], &[1, 1, 1], None), // 0; 1
+    ([3, 4], TRIANGLE, 0, 0, &[1, 1, 1], &[1, 1, 1], Some(0)),
+    ([3, 4], TRIANGLE, 2, 1, &[1, 1, 1], &[1], Some(2)), // 2; 0, 1, 2
+    ([1, 2], &[(0, 1, 0)], 0, 0, &[1], &[1, 1], Some(0)),
+    ([1, 2], &[(0, 1, 0)], 0, 0, &[1], &[2], None),
+    ([256, 1], FAR, 254, 253, &[1], &[2], Some(255)),
+    ([256, 4], &[(255, 8, 255)], 255, 255, &[8, 8, 8, 8], &[8], Some(255)),
+];
+
 /// Table II as index memory: vertices numbered from 0, rising.
 pub fn table_2_slots() -> Vec<u64> {
     let mut slots: Vec<u64> =
@@ -120,6 +180,8 @@ pub fn run(t: &mut Tester) {
     table_2(t);
     keyed_twice(t);
     routes(t);
+    two_patterns(t);
+    two_refused(t);
 }
 
 fn memory(t: &mut Tester, edges: usize, index: usize) -> Memory {
@@ -372,5 +434,69 @@ fn routes(t: &mut Tester) {
             t.expect("the slots behind it, or all if there is none", &walk[written..], &found[written..]);
             t.expect("work memory zero, also after 18", memory.work.iter().all(|word| *word == 0), true);
         }
+    }
+}
+
+/// Laid edge by edge, and asked with dirty work memory, with zeroed, and with none: 4 if a pattern repeats itself.
+fn two_patterns(t: &mut Tester) {
+    for (header, edges, start, destination, first, second, middle) in TWO_PATTERNS {
+        let mut memory = memory(t, edges.len(), 40);
+        let mut record = records::any(&mut t.rng, header, edges);
+        let reply = t.open(&mut record, &mut memory);
+        t.expect("an opening", reply, 0);
+        for edge in edges {
+            memory.work = t.rng.words(4136);
+            let reply = t.change(true, &mut record, *edge, &mut memory);
+            t.expect("an insertion", reply, 0);
+        }
+        let asked = two(start, destination, first, second);
+        let searched = (repeats_itself(first) || repeats_itself(second)) && !record.lacks(&[first, second].concat());
+        for found in [t.rng.words(4096), vec![0; 4096], t.rng.words(5000), vec![]] {
+            let short = searched && found.is_empty();
+            let mut lent = Memory { work: found.clone(), ..memory.clone() };
+            let reply = t.query_two(record, &asked, &mut lent);
+            t.expect("a query by two patterns", reply, if short { (4, 0) } else { reply_of(middle) });
+            let left = if searched { vec![0; found.len()] } else { found };
+            t.expect("work memory zero after a search, else as found", lent.work == left, true);
+        }
+    }
+}
+
+/// In A, with all as the card left it but for one thing.
+fn two_refused(t: &mut Tester) {
+    let record = Record { header: [3, 2], totals: TOTALS_A };
+    let mut a = memory(t, 3, 5);
+    let reply = t.read_card(&CARD_A, &mut a).0;
+    t.expect("card A", reply, 0);
+    let no_edges = Memory { edges: vec![4354, 257, 4608], ..a.clone() };
+    let no_index = Memory { index: vec![65537, 18, 0, 0, 0], ..a.clone() };
+    let no_work = Memory { work: vec![7; 4095], ..a.clone() };
+    let trials: [(&Memory, u32, u32, &[u8], &[u8], (u32, u32)); 20] = [
+        (&a, 2, 2, &[1], &[1], (0, 0)),
+        (&a, 3, 0, &[1], &[2], (10, 0)),
+        (&a, 0, 3, &[1], &[2], (10, 0)),
+        (&a, 3, 0, &[], &[], (10, 0)),
+        (&a, 0, 0, &[1, 2, 1], &[2], (11, 0)),
+        (&a, 0, 0, &[1], &[1, 2, 1], (11, 0)),
+        (&a, 0, 0, &[], &[3], (11, 0)),
+        (&a, 0, 0, &[3], &[], (11, 0)),
+        (&a, 0, 0, &[3], &[9], (11, 0)),
+        (&no_index, 0, 0, &[1], &[2], (12, 0)),
+        (&no_index, 1, 2, &[2, 2], &[1, 1], (12, 0)),
+        (&no_index, 0, 0, &[1], &[3], (0, 0)),
+        (&no_index, 0, 0, &[3], &[1, 1], (0, 0)),
+        (&no_edges, 0, 0, &[1], &[2], (YES, 1)),
+        (&no_edges, 1, 2, &[2], &[1, 1], (3, 0)),
+        (&no_edges, 0, 2, &[1, 1], &[1], (3, 0)),
+        (&no_edges, 0, 2, &[1, 1], &[3], (0, 0)),
+        (&no_work, 0, 0, &[1], &[2], (YES, 1)),
+        (&no_work, 1, 2, &[2], &[1, 1], (4, 0)),
+        (&no_work, 0, 2, &[1, 1], &[1], (4, 0)),
+    ];
+    for (lent, start, destination, first, second, expected) in trials {
+        let mut left = lent.clone();
+        let reply = t.query_two(record, &two(start, destination, first, second), &mut left);
+        t.expect("a query by two patterns in A", reply, expected);
+        t.expect("all as found", &left == lent, true);
     }
 }

@@ -18,7 +18,7 @@ mod search;
 mod timing;
 
 use layouts::{Layout, Random, VERTICES};
-use lent::{draw, rlc_insert, rlc_remove, Lent, YES};
+use lent::{draw, repeated, rlc_insert, rlc_remove, Lent, YES};
 use timing::{heading, heading_of, millis, print_times};
 
 #[rustfmt::skip]
@@ -80,14 +80,6 @@ fn time_queries(name: &str, lent: &mut Lent, questions: usize) {
         }
     }
     print_times(name, proved, rust, format!("{questions} queries"));
-}
-
-/// A pattern of at most k labels, written twice or more, of the labels 1 to 4 that the layout has.
-fn repeated(random: &mut Random, lent: &Lent) -> Vec<u8> {
-    let labels: Vec<u8> = (1..=4).filter(|&label| lent.total(label) > 0).collect();
-    let (length, times) = if lent.longest() == 2 { (1, 2) } else { [(1, 2), (1, 3), (1, 4), (2, 2)][random.below(4) as usize] };
-    let once: Vec<u8> = (0..length).map(|_| labels[random.below(labels.len() as u32) as usize]).collect();
-    once.repeat(times)
 }
 
 /// Queries by a pattern keyed twice, against a plain check by the same pattern and the query's checks up to 12, in five turns: the mean of each.

@@ -1,2 +1,4 @@
 pub mod Joining
 pub mod Answering
+pub mod Marking
+pub mod Linking

@@ -5,4 +5,5 @@ pub mod Card
 pub mod Settling
 pub mod Passing
 pub mod Query
+pub mod QueryTwo
 pub mod Route

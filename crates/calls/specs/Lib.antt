@@ -3,5 +3,6 @@ pub mod Call
 pub mod Search
 pub mod Route
 pub mod Query
+pub mod QueryTwo
 pub mod Change
 pub mod Card

@@ -21,6 +21,7 @@ use Rattle.model.proofs.Search.{test-runs}
 use Rattle.calls.specs.Checks.{vertices?, longest?, ends?, Check}
 use Rattle.calls.specs.Call.{Size, graphOf, Memory}
 use Rattle.calls.specs.Query.{saying, fullRefusal, byIndex, bySearch, fullCall}
+use Rattle.calls.specs.QueryTwo.{yes?}
 use Rattle.calls.proofs.Query.{Allowed, allowed, within}
 use Rattle.calls.proofs.Passing.{passing}
 use Rattle.demands.specs.Demand1.{queryNumber}
@@ -41,6 +42,10 @@ module _ {g : Graph} {l : List ℕ} {s t : ℕ} where
   pub judged-runs : {r : Answered} → Judged g l s t r → r ≡ Yes → Runs g l s t
   judged-runs (runs p) e = p
   judged-runs (runs-not d) e = absurd (let z : 0 ≡ 1 = ap yes e in omega arith)
+
+  pub judged-test : {r : Answered} → Judged g l s t r → Tests (yes? r) (Runs g l s t)
+  judged-test (runs p) = record { yields = λ _. p; passes = λ _. tt }
+  judged-test (runs-not d) = record { yields = λ t. absurd t; passes = d }
 
   pub runs-judged : {r : Answered} → Judged g l s t r → Runs g l s t → r ≡ Yes
   runs-judged (runs p) q = refl

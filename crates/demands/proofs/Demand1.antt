@@ -1,6 +1,6 @@
 -- Demand 1 holds.
 use mathlib.Core.Path.{_≡_, refl, sym, ap}
-use mathlib.Core.Logic.{inl, inr, ⊎-elim}
+use mathlib.Core.Logic.{_⊎_, inl, inr, ⊎-elim}
 use mathlib.Core.Bool.{Bool, true, false, not, _&&_, _||_}
 use mathlib.Core.List.{List, [], _∷_, _++_}
 use Prim.Native.Nat.{ℕ, zero, suc, _≤_}
@@ -8,29 +8,32 @@ use native.Mathlib.Omega.{arith}
 use lib.ListN.{length, drop}
 use lib.Seq.{take-append-seam, drop-append-seam}
 use lib.Dec.{T, eqb}
-use Rattle.model.specs.Lists.{zeroed}
+use Rattle.model.specs.Lists.{keep, upTo, zeroed}
 use Rattle.model.specs.Edges.{Graph, standing}
 use Rattle.model.specs.Routes.{Routed, Yes as RoutedYes, No as RoutedNo, Refused as RoutedRefused}
 use Rattle.model.specs.Patterns.{MinRepeat}
 use Rattle.model.specs.Query.{Answered}
+use Rattle.model.specs.Middles.{TwoAnswered, Refused as TwoRefused}
 use Rattle.model.specs.States.{Reply, Refused}
 use Rattle.model.specs.Computed.Patterns.{once?}
 use Rattle.model.specs.Computed.Levels.{runs?}
 use Rattle.model.specs.Computed.Query.{answers?}
 use Rattle.model.specs.Levels.{Told, found, ended, stopped}
-use Rattle.model.proofs.Tests.{Tests, test-yields, test-fails, test-and, test-or, test-not, test-eq, test-T, both-ways}
+use Rattle.model.proofs.Tests.{Tests, test-true, test-false, test-yields, test-fails, test-and, test-or, test-not, test-eq, test-T, both-ways}
 use Rattle.model.proofs.Search.{told}
 use Rattle.calls.specs.Checks.{Check, firstRefusal}
 use Rattle.calls.specs.Call.{Size, Header, Lacks, graphOf, Memory, cleared, Outcome, refusing, Wrote, Length, Refused as NotWritten}
 use Rattle.calls.specs.Search.{searchRefusal, searchCall}
 use Rattle.calls.specs.Route.{lit, lighting, routeCall}
 use Rattle.calls.specs.Query.{saying, askRefusal, fullRefusal, fullCall, lacking?, queryCall}
+use Rattle.calls.specs.QueryTwo.{lowest, twoRefusal, eitherLacks?, memoryChecks, counts?, byMiddles, queryTwoCall}
 use Rattle.calls.specs.Change.{handing, fits?, settle, openRefusal, openChange, openCall, insertRefusal, insertChange, insertCall, removeRefusal, removeChange, removeCall}
 use Rattle.calls.specs.Card.{readRefusal, readChange, readCall, cardOf, writeRefusal, writeCall}
 use Rattle.calls.proofs.Change.{handed-some}
-use Rattle.calls.proofs.Query.{test-lacking, query-refuses, query-lacking, query-full}
+use Rattle.calls.proofs.QueryTwo.{test-either, test-both, two-leaves, two-refuses, two-lacking, memory-refuses, two-accepted}
+use Rattle.calls.proofs.Query.{within, test-lacking, query-refuses, query-lacking, query-full}
 use Rattle.calls.proofs.Route.{LightingCase, nothing, fits, too-long, lighting-case}
-use Rattle.demands.specs.Demand1.{Zeroing, Keeps, ChangeKeeps, searchNumber, queryNumber, routeNumber, writeNumber, Leaves, LeavesWalk, Demand1}
+use Rattle.demands.specs.Demand1.{Zeroing, Keeps, ChangeKeeps, searchNumber, queryNumber, twoNumber, routeNumber, writeNumber, Leaves, LeavesWalk, Demand1}
 use Rattle.demands.proofs.Asking.{number-refuses, once-is, repeats-is}
 
 -- an accepted call refuses nothing
@@ -134,13 +137,13 @@ full-keeps h start destination pattern m = go (fullRefusal h start destination p
         )
 
 -- the question: by the rule of totals
-query-keeps : (h : Header) (start destination : ℕ) (pattern : List ℕ) (m : Memory) → Asks m (Leaves (h .totals) pattern m) (queryCall h start destination pattern m)
+query-keeps : (h : Header) (start destination : ℕ) (pattern : List ℕ) (m : Memory) → Asks m (Leaves (Lacks (h .totals) pattern) (MinRepeat pattern pattern) m) (queryCall h start destination pattern m)
 query-keeps h start destination pattern m = both-ways (lacking? (h .totals) pattern) (λ q. ruled q (askRefusal (h .size) start destination pattern) refl) whole
   where
     lacks? : Tests (lacking? (h .totals) pattern) (Lacks (h .totals) pattern)
     lacks? = test-lacking (h .totals) pattern
 
-    whole : lacking? (h .totals) pattern ≡ false → Asks m (Leaves (h .totals) pattern m) (queryCall h start destination pattern m)
+    whole : lacking? (h .totals) pattern ≡ false → Asks m (Leaves (Lacks (h .totals) pattern) (MinRepeat pattern pattern) m) (queryCall h start destination pattern m)
     whole q =
         let (keeps, leaves) = full-keeps (h .size) start destination pattern m in
         rw (query-full h start destination pattern m q) (
@@ -151,7 +154,7 @@ query-keeps h start destination pattern m = both-ways (lacking? (h .totals) patt
     others : ¬ Zeroing (askRefusal (h .size) start destination pattern)
     others = unfold askRefusal in other-number _ tt
 
-    ruled : lacking? (h .totals) pattern ≡ true → (n : ℕ) → askRefusal (h .size) start destination pattern ≡ n → Asks m (Leaves (h .totals) pattern m) (queryCall h start destination pattern m)
+    ruled : lacking? (h .totals) pattern ≡ true → (n : ℕ) → askRefusal (h .size) start destination pattern ≡ n → Asks m (Leaves (Lacks (h .totals) pattern) (MinRepeat pattern pattern) m) (queryCall h start destination pattern m)
     ruled q zero e =
         rw (query-lacking h start destination pattern m e q) (
           accepted-keeps refl,
@@ -162,6 +165,59 @@ query-keeps h start destination pattern m = both-ways (lacking? (h .totals) patt
           record { refused = λ _ _. refl; zeroing = λ z. absurd (others (rw e z)) },
           λ z. absurd (omega (arith, z)),
         )
+
+-- two patterns: the same by either
+lowest-accepted : (l : List ℕ) → twoNumber (lowest l) ≡ 0
+lowest-accepted [] = refl
+lowest-accepted (v ∷ l) = refl
+
+module _ (h : Header) (start destination : ℕ) (first second : List ℕ) (m : Memory) where
+  abbrev Lacking : Type 0
+  Lacking = Lacks (h .totals) first ⊎ Lacks (h .totals) second
+
+  abbrev Once : Type 0
+  Once = MinRepeat first first × MinRepeat second second
+
+  abbrev AsksTwo : Outcome TwoAnswered → Type 0
+  AsksTwo c = Keeps m c (twoNumber (c .reply)) × (twoNumber (c .reply) ≡ 0 → Leaves Lacking Once m (c .memory))
+
+  -- a refusal that leaves everything
+  two-refusal : {n : ℕ} → ¬ Zeroing (suc n) → AsksTwo (record { reply = TwoRefused (suc n); memory = m })
+  two-refusal d = (record { refused = λ _ _. refl; zeroing = λ z. absurd (d z) }, λ z. absurd (omega (arith, z)))
+
+  two-keeps : AsksTwo (queryTwoCall h start destination first second m)
+  unfolding byMiddles
+  two-keeps = early (twoRefusal (h .size) start destination first second) refl
+    where
+      lacks? : Tests (eitherLacks? (h .totals) first second) Lacking
+      lacks? = test-either (h .totals) first second
+
+      others : ¬ Zeroing (twoRefusal (h .size) start destination first second)
+      others = unfold twoRefusal in other-number _ tt
+
+      later : (n : ℕ) → twoRefusal (h .size) start destination first second ≡ 0 → eitherLacks? (h .totals) first second ≡ false
+          → firstRefusal (memoryChecks h start destination first second m) ≡ n → AsksTwo (queryTwoCall h start destination first second m)
+      later (suc n) passed q e = rw (memory-refuses h start destination first second m passed q e) (two-refusal (λ z. other-number (memoryChecks h start destination first second m) tt (rw e z)))
+      later zero passed q e =
+          let a = two-leaves (h .size) start destination first second passed in
+          let once? = test-both (within (a .bounds) (a .first-keyed)) (within (a .bounds) (a .second-keyed)) in
+          rw (two-accepted h start destination first second m passed q e) (
+            accepted-keeps (lowest-accepted (keep (counts? h start destination first second m) (upTo (h .size .vertices)))),
+            λ _. record {
+              lacking = λ l. absurd (test-fails lacks? q l);
+              once = λ o. rw (test-true once? o) refl;
+              repeating = λ _ d. rw (test-false once? d) refl;
+            },
+          )
+
+      early : (n : ℕ) → twoRefusal (h .size) start destination first second ≡ n → AsksTwo (queryTwoCall h start destination first second m)
+      early (suc n) e = rw (two-refuses h start destination first second m e) (two-refusal (λ z. others (rw e z)))
+      early zero e = both-ways (eitherLacks? (h .totals) first second)
+          (λ q. rw (two-lacking h start destination first second m e q) (
+            accepted-keeps refl,
+            λ _. record { lacking = λ _. refl; once = λ _. refl; repeating = λ d. absurd (d (test-yields lacks? q)) },
+          ))
+          (λ q. later (firstRefusal (memoryChecks h start destination first second m)) e q refl)
 
 pub told-none : {g : Graph} {l : List ℕ} {s t limit : ℕ} {r : Reply} → Told g l s t limit r → searchNumber r ≡ 0
 told-none (found c h q m) = refl
@@ -247,6 +303,7 @@ demand1 =
       removes = λ h from label to m. handing-keeps h _ m _ (with-keeps _ (other-number _ tt) m _ (settle-keeps _ _ m));
       reads = λ bytes m. handing-keeps _ _ m _ (with-keeps _ (other-number _ tt) m _ (settle-keeps _ _ m));
       queries = query-keeps;
+      queries-two = two-keeps;
       searches = λ h start destination pattern limit m.
           searched-keeps _ (other-number _ tt) _ (told-none (told (graphOf h (standing (m .edges))) pattern start destination limit)) m;
       routes = λ h start destination pattern m. routed-keeps _ (other-number _ tt) _ m;

@@ -1,19 +1,21 @@
 -- The definitions that compute mean what document 01 says.
-use mathlib.Core.Path.{_≡_, sym, _∙_}
-use mathlib.Core.Logic.{_↔_}
-use mathlib.Core.Bool.{Bool, true}
+use mathlib.Core.Path.{_≡_, refl, sym, ap, _∙_}
+use mathlib.Core.Logic.{_↔_, ⊎-elim}
+use mathlib.Core.Bool.{Bool, true, false}
 use mathlib.Core.List.{List}
-use Prim.Native.Nat.{ℕ, _<_}
+use Prim.Native.Nat.{ℕ, zero, suc, _<_}
 use native.Mathlib.Omega.{arith}
+use lib.Dec.{T}
 use Rattle.model.specs.Limits.{mostLongest}
 use Rattle.model.specs.Edges.{Graph, Bounds, standing}
 use Rattle.model.specs.Patterns.{times, Keyed, MinRepeat}
-use Rattle.model.specs.Query.{No}
+use Rattle.model.specs.Query.{Answered, No}
+use Rattle.model.specs.Middles.{TwoAnswered, Least, none}
 use Rattle.model.specs.Computed.Edges.{Small}
 use Rattle.model.specs.Computed.Patterns.{minRepeat, timesWritten}
 use Rattle.model.specs.Computed.Order.{counted}
 use Rattle.model.specs.Computed.Entries.{determined}
-use Rattle.model.proofs.Tests.{Tests, test-true, test-false, test-yields}
+use Rattle.model.proofs.Tests.{Tests, test-true, test-false, test-yields, both-ways}
 use Rattle.model.proofs.Patterns.{test-keyed, min-repeat, min-repeat-unique, written-gives, written-is}
 use Rattle.model.proofs.Walks.{runs-spells, spells-runs}
 use Rattle.model.proofs.Levels.{state-zero, level-zero, level-iff}
@@ -24,15 +26,18 @@ use Rattle.model.proofs.Query.{test-answers}
 use Rattle.model.proofs.Codes.{test-code}
 use Rattle.model.proofs.Memories.{test-edge-memory, test-index-memory}
 use Rattle.model.proofs.Totals.{total-at, total-zero}
-use Rattle.calls.specs.Call.{Size, Header, Lacks, graphOf, Memory}
+use Rattle.calls.specs.Checks.{firstRefusal}
+use Rattle.calls.specs.Call.{Size, Header, Lacks, graphOf, Memory, Outcome}
 use Rattle.calls.specs.Search.{searchCall}
-use Rattle.calls.specs.Query.{queryCall}
-use Rattle.calls.proofs.Query.{ask-passes, test-lacking, query-lacking, query-full}
-use Rattle.demands.specs.Demand1.{searchNumber, queryNumber}
+use Rattle.calls.specs.Query.{askRefusal, queryCall}
+use Rattle.calls.specs.QueryTwo.{yes?, twoRefusal, eitherLacks?, memoryChecks, queryTwoCall}
+use Rattle.calls.proofs.Query.{ask-passes, test-lacking, query-refuses, query-lacking, query-full}
+use Rattle.calls.proofs.QueryTwo.{test-either, two-refuses, two-lacking, memory-refuses, two-counts}
+use Rattle.demands.specs.Demand1.{searchNumber, queryNumber, twoNumber}
 use Rattle.demands.specs.Demand2.{Judged}
 use Rattle.demands.proofs.Asking.{unrefused, search-right}
 use Rattle.demands.proofs.Routing.{search-allowed, search-number, route-told, route-levels}
-use Rattle.demands.specs.Meaning.{Replies, GraphMeaning, Meaning}
+use Rattle.demands.specs.Meaning.{Replies, Said, GraphMeaning, Meaning}
 
 -- a test is true exactly if its statement holds
 exactly : {b : Bool} {P : Type 0} → Tests b P → (b ≡ true) ↔ P
@@ -82,6 +87,39 @@ lacking : (h : Header) (s t : ℕ) (l : List ℕ) (m : Memory) → Bounds (h .si
     → Keyed (h .size .longest) l → Lacks (h .totals) l → queryCall h s t l m ≡ record { reply = No; memory = m }
 lacking h s t l m b hs ht k lacks = query-lacking h s t l m (ask-passes b hs ht k) (test-true (test-lacking (h .totals) l) lacks)
 
+-- ---- two patterns
+
+-- a question that lacks a label is no yes
+lacking-not : (h : Header) (s t : ℕ) (l : List ℕ) (m : Memory) → Lacks (h .totals) l → ¬ Said h s t l m
+lacking-not h s t l m lacks e = go (askRefusal (h .size) s t l) refl
+  where
+    other : {r : Answered} → queryCall h s t l m .reply ≡ r → T (yes? r)
+    other q = rw (sym q ∙ e) tt
+
+    go : (n : ℕ) → askRefusal (h .size) s t l ≡ n → ⊥
+    go zero q = other (ap (λ (c : Outcome Answered). c .reply) (query-lacking h s t l m q (test-true (test-lacking (h .totals) l) lacks)))
+    go (suc n) q = other (ap (λ (c : Outcome Answered). c .reply) (query-refuses h s t l m q))
+
+module _ (h : Header) (s t : ℕ) (p q : List ℕ) (m : Memory) where
+  abbrev Counts : ℕ → Type 0
+  Counts v = (v < h .size .vertices) × (Said h s v p m × Said h v t q m)
+
+  abbrev Right : Outcome TwoAnswered → Type 0
+  Right c = twoNumber (c .reply) ≡ 0 → Least Counts (c .reply)
+
+  two : Right (queryTwoCall h s t p q m)
+  two = early (twoRefusal (h .size) s t p q) refl
+    where
+      later : (n : ℕ) → twoRefusal (h .size) s t p q ≡ 0 → eitherLacks? (h .totals) p q ≡ false → firstRefusal (memoryChecks h s t p q m) ≡ n → Right (queryTwoCall h s t p q m)
+      later (suc n) passed whole e = rw (memory-refuses h s t p q m passed whole e) (λ z. absurd (omega (arith, z)))
+      later zero passed whole e = λ _. two-counts h s t p q m passed whole e
+
+      early : (n : ℕ) → twoRefusal (h .size) s t p q ≡ n → Right (queryTwoCall h s t p q m)
+      early (suc n) e = rw (two-refuses h s t p q m e) (λ z. absurd (omega (arith, z)))
+      early zero e = both-ways (eitherLacks? (h .totals) p q)
+          (λ l. rw (two-lacking h s t p q m e l) (λ _. none (λ v c. ⊎-elim (λ a. lacking-not h s v p m a (c .1 .0)) (λ b. lacking-not h v t q m b (c .1 .1)) (test-yields (test-either (h .totals) p q) l))))
+          (λ l. later (firstRefusal (memoryChecks h s t p q m)) e l refl)
+
 pub meaning : Meaning
 meaning =
     record {
@@ -99,4 +137,5 @@ meaning =
       queries = queries;
       total-zero = λ edges c low high. rw (total-at edges c low high) (total-zero edges c);
       lacking = lacking;
+      two = two;
     }

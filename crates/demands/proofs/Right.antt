@@ -1,6 +1,6 @@
 -- Demand 2 (a): questions put with the record and the memory that an accepted change left are answered rightly.
 use mathlib.Core.Path.{_≡_, refl, sym, ap, subst, _∙_}
-use mathlib.Core.Logic.{⊎-elim, _↔_, _≢_}
+use mathlib.Core.Logic.{_⊎_, inl, inr, ⊎-elim, _↔_, _≢_}
 use mathlib.Core.Bool.{true, false, _||_}
 use mathlib.Core.List.{List, [], _∷_, _++_, List·Memᴰ·not-nil}
 use Prim.Native.Nat.{ℕ, zero, suc, _*_, _≤_, _<_}
@@ -16,11 +16,12 @@ use Rattle.model.specs.Walks.{Runs}
 use Rattle.model.specs.Entries.{Asked}
 use Rattle.model.specs.Routes.{Yes as RoutedYes}
 use Rattle.model.specs.Query.{Answered, Yes, No, Refused}
+use Rattle.model.specs.Middles.{Middle, Least, none as none-least, No as TwoNo, Refused as TwoRefused}
 use Rattle.model.specs.Computed.Edges.{Small, edge?, edgeMemory?, insertEdge, removeEdge}
 use Rattle.model.specs.Computed.Patterns.{keyed?, once?}
 use Rattle.model.specs.Computed.Order.{counted}
 use Rattle.model.specs.Computed.Entries.{determined}
-use Rattle.model.proofs.Tests.{Tests, test-true, test-false, test-yields, test-not, test-mem, test-le, test-lt, test-dec}
+use Rattle.model.proofs.Tests.{Tests, test-true, test-false, test-yields, test-not, test-and, test-or, test-T, test-mem, test-le, test-lt, test-dec}
 use Rattle.model.proofs.Edges.{edge-named}
 use Rattle.model.proofs.Patterns.{test-keyed, test-once}
 use Rattle.model.proofs.Routes.{candidate-runs}
@@ -33,6 +34,7 @@ use Rattle.calls.specs.Call.{Size, Header, Lacks, graphOf, Memory, lent, lentOu
 use Rattle.calls.specs.Search.{searchRefusal}
 use Rattle.calls.specs.Route.{routeCall}
 use Rattle.calls.specs.Query.{askRefusal, fullRefusal, fullCall, lacking?, queryCall}
+use Rattle.calls.specs.QueryTwo.{twoRefusal, eitherLacks?, bothOnce?, memoryChecks, byMiddles, queryTwoCall}
 use Rattle.calls.specs.Change.{handing, changeChecks, changeRefusal, openChecks, openRefusal, openChange, openCall, insertRefusal, insertChange, insertCall, removeRefusal, removeChange, removeCall}
 use Rattle.calls.specs.Card.{readCall}
 use Rattle.calls.proofs.Checks.{First, none, pass, stop, first-is, bounded, bounds-pass, test-ends}
@@ -40,8 +42,9 @@ use Rattle.calls.proofs.Change.{ChangeGood, change-good, front-passes}
 use Rattle.calls.proofs.Settling.{settledChange, Result, settled, with-number, accepted-zero}
 use Rattle.calls.proofs.Passing.{passing}
 use Rattle.calls.proofs.Query.{within, ask-leaves, ask-passes, test-lacking, query-refuses, query-lacking, full-refuses, query-full}
-use Rattle.demands.specs.Demand2.{Judged, runs-not, Lit, Right, RightAfter}
-use Rattle.demands.proofs.Asking.{judged, judged-runs, runs-judged, not-judged, number-refuses, once-is, search-right}
+use Rattle.calls.proofs.QueryTwo.{lowest-least, least-as, test-either, test-both, two-stop, two-pass, two-refuses, two-lacking, memory-refuses, two-accepted}
+use Rattle.demands.specs.Demand2.{Judged, runs-not, Lit, Suffices, written-once, as-left, RightTwo, Right, RightAfter}
+use Rattle.demands.proofs.Asking.{judged, judged-test, judged-runs, runs-judged, not-judged, number-refuses, once-is, search-right}
 use Rattle.demands.proofs.Routing.{lit-route, runs-lit, route-lit}
 use Rattle.demands.proofs.Index.{whole-passes, answer-right}
 use Rattle.demands.proofs.Openings.{no-entries, blank-filled}
@@ -203,6 +206,107 @@ module _ (g : Graph) (bounds : Bounds (g .vertices) (g .longest)) (slots room : 
         → (queryCall h s t l (lent edges index work) .reply ≡ Yes) ↔ ((n : ℕ) × (routeCall size s t l (lentOut edges work walk) .reply ≡ RoutedYes n))
     shown-if long = (λ e. runs-lit bounds k hs ht long shown (judged-runs asked e), λ (n, e). let (es, r, _) = lit-route shown e in runs-judged asked (candidate-runs (r .runs)))
 
+  -- ---- two patterns
+
+  module _ (s t : ℕ) (p q : List ℕ) where
+    ends-none : ¬ ((s < g .vertices) × (t < g .vertices)) → (m : Memory) → queryTwoCall h s t p q m .reply ≡ TwoRefused 10
+    ends-none d m =
+        let e = two-stop size s t p q (after-header [] [] s t p (stop (test-false (test-ends (g .vertices) s t) d))) (omega arith) in
+        rw (two-refuses h s t p q m e) refl
+
+    module _ (hs : s < g .vertices) (ht : t < g .vertices) where
+      -- 11 of the first, then of the second
+      patterns-none : ¬ (Keyed (g .longest) p × Keyed (g .longest) q) → (m : Memory) → queryTwoCall h s t p q m .reply ≡ TwoRefused 11
+      patterns-none d m = rw (two-refuses h s t p q m (eleven (test-dec (test-keyed (g .longest) p)))) refl
+        where
+          eleven : Dec (Keyed (g .longest) p) → twoRefusal size s t p q ≡ 11
+          eleven (yes k) = two-pass size s t p q (ask-passes bounds hs ht k) (stop (test-false (test-keyed (g .longest) q) (λ l. d (k, l))))
+          eleven (no n) =
+              two-stop size s t p q
+              (after-header [] [] s t p (pass (test-true (test-ends (g .vertices) s t) (hs, ht)) (stop (test-false (test-keyed (g .longest) p) n)))) (omega arith)
+
+      module _ (kp : Keyed (g .longest) p) (kq : Keyed (g .longest) q) where
+        two-passed : twoRefusal size s t p q ≡ 0
+        two-passed = two-pass size s t p q (ask-passes bounds hs ht kp) (pass (test-true (test-keyed (g .longest) q) kq) none)
+
+        either? : Tests (eitherLacks? (totalsOf (g .edges)) p q) (Lacks (totalsOf (g .edges)) p ⊎ Lacks (totalsOf (g .edges)) q)
+        either? = test-either (totalsOf (g .edges)) p q
+
+        both? : Tests (bothOnce? p q) (MinRepeat p p × MinRepeat q q)
+        both? = test-both (within bounds kp) (within bounds kq)
+
+        -- if a label is lacking, whatever memory is lent
+        either-no : Lacks (totalsOf (g .edges)) p ⊎ Lacks (totalsOf (g .edges)) q → (m : Memory) → queryTwoCall h s t p q m .reply ≡ TwoNo
+        either-no lacks m = rw (two-lacking h s t p q m two-passed (test-true either? lacks)) refl
+
+        no-middle : Lacks (totalsOf (g .edges)) p ⊎ Lacks (totalsOf (g .edges)) q → (v : ℕ) → ¬ Middle g p q s t v
+        no-middle lacks v k = ⊎-elim (λ l. none-runs kp l (k .out)) (λ l. none-runs kq l (k .home)) lacks
+
+        -- index memory passes 12
+        after-index-two : (other work : List ℕ) {n : ℕ}
+            → First ((3, bothOnce? p q || edgeMemory? (g .vertices) other) ∷ (4, bothOnce? p q || leb leastWork (length work)) ∷ []) n
+            → firstRefusal (memoryChecks h s t p q (lent other index work)) ≡ n
+        unfolding determined
+        after-index-two other work f = first-is (pass (whole-passes g (counted g) small room) f)
+
+        two-less : ¬ (MinRepeat p p × MinRepeat q q) → ¬ (Lacks (totalsOf (g .edges)) p ⊎ Lacks (totalsOf (g .edges)) q) → (work : List ℕ)
+            → length work < leastWork → queryTwoCall h s t p q (lent edges index work) .reply ≡ TwoRefused 4
+        two-less more whole work less =
+            let three : bothOnce? p q || edgeMemory? (g .vertices) edges ≡ true = rw (test-false both? more) (memory-passes can) in
+            let four : bothOnce? p q || leb leastWork (length work) ≡ false
+            = rw (test-false both? more) (test-false (test-le leastWork (length work)) (λ z. omega (arith, z))) in
+            rw (memory-refuses h s t p q (lent edges index work) two-passed (test-false either? whole) (after-index-two edges work (pass three (stop four)))) refl
+
+        module _ (other work : List ℕ) where
+          -- what is lent suffices for either pattern by itself
+          single : (a b : ℕ) (l : List ℕ) → a < g .vertices → b < g .vertices → Keyed (g .longest) l → (MinRepeat l l) ⊎ ((other ≡ edges) × (leastWork ≤ length work))
+              → Judged g l a b (queryCall h a b l (lent other index work) .reply)
+          single a b l ha hb k (inl own) = as-full other work a b l ha hb k (full-once other work a b l ha hb k own)
+          single a b l ha hb k (inr (here, room)) = as-full other work a b l ha hb k (elim (test-dec (own? other work a b l ha hb k)) [
+            | yes own ↦ full-once other work a b l ha hb k own
+            | no more ↦ full-searched other work a b l ha hb k more here room
+          ])
+
+          memory-none : Suffices edges p q other work → firstRefusal (memoryChecks h s t p q (lent other index work)) ≡ 0
+          memory-none (written-once a b) = let e = test-true both? (a, b) in after-index-two other work (pass (rw e refl) (pass (rw e refl) none))
+          memory-none (as-left here room) =
+              let three : edgeMemory? (g .vertices) other ≡ true = ap (edgeMemory? (g .vertices)) here ∙ memory-passes can in
+              after-index-two other work
+              (pass (test-true (test-or (test-T (bothOnce? p q)) (test-T (edgeMemory? (g .vertices) other))) (inr (rw three tt)))
+              (pass (test-true (test-or (test-T (bothOnce? p q)) (test-le leastWork (length work))) (inr room)) none))
+
+          of-first : Suffices edges p q other work → (MinRepeat p p) ⊎ ((other ≡ edges) × (leastWork ≤ length work))
+          of-first (written-once a b) = inl a
+          of-first (as-left here room) = inr (here, room)
+
+          of-second : Suffices edges p q other work → (MinRepeat q q) ⊎ ((other ≡ edges) × (leastWork ≤ length work))
+          of-second (written-once a b) = inl b
+          of-second (as-left here room) = inr (here, room)
+
+          least-middle : Suffices edges p q other work → Least (Middle g p q s t) (queryTwoCall h s t p q (lent other index work) .reply)
+          least-middle lends = elim (test-dec either?) [
+            | yes lacks ↦ rw (either-no lacks (lent other index work)) (none-least (no-middle lacks))
+            | no whole ↦ rw (two-accepted h s t p q (lent other index work) two-passed (test-false either? whole) (memory-none lends))
+                (unfold byMiddles in least-as into back (lowest-least (λ v hv.
+                test-and (judged-test (single s v p hs hv kp (of-first lends))) (judged-test (single v t q hv ht kq (of-second lends))))))
+          ]
+            where
+              into : (v : ℕ) → (v < g .vertices) × (Runs g p s v × Runs g q v t) → Middle g p q s t v
+              into v h = record { vertex = h .0; out = h .1 .0; home = h .1 .1 }
+
+              back : (v : ℕ) → Middle g p q s t v → (v < g .vertices) × (Runs g p s v × Runs g q v t)
+              back v k = (k .vertex, (k .out, k .home))
+
+    right-two : RightTwo h edges index g s t p q
+    right-two =
+        record {
+          least = λ hs ht kp kq other work. least-middle hs ht kp kq other work;
+          lacking = λ hs ht kp kq lacks m. (either-no hs ht kp kq lacks m, no-middle hs ht kp kq lacks);
+          less = two-less;
+          ends = ends-none;
+          patterns = patterns-none;
+        }
+
   -- whatever is asked
   full : (s t : ℕ) (l work : List ℕ) → fullCall size s t l (lent edges index work) .reply ≢ Refused 4
       → queryCall h s t l (lent edges index work) .reply ≡ fullCall size s t l (lent edges index work) .reply
@@ -225,6 +329,7 @@ module _ (g : Graph) (bounds : Bounds (g .vertices) (g .longest)) (slots room : 
         patterns = λ s t l hs ht d other work. ap replied (pattern-refused other work s t l hs ht d);
         routes = shown;
         given = shown-if;
+        two = right-two;
       }
     where
       replied : Outcome Answered → Answered

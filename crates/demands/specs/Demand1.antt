@@ -8,12 +8,14 @@ use lib.ListN.{take, drop}
 use Rattle.model.specs.Lists.{zeroed}
 use Rattle.model.specs.Patterns.{MinRepeat}
 use Rattle.model.specs.Query.{Answered, Yes as AnsweredYes, No as AnsweredNo, Refused as AnsweredRefused}
+use Rattle.model.specs.Middles.{TwoAnswered, Yes as TwoYes, No as TwoNo, Refused as TwoRefused}
 use Rattle.model.specs.Routes.{Routed, Yes as RoutedYes, No as RoutedNo, Refused as RoutedRefused}
 use Rattle.model.specs.States.{Reply, Yes, No, Spent, Refused}
 use Rattle.calls.specs.Call.{Size, Header, Lacks, Memory, lent, cleared, Outcome, Returned, Wrote, Length, Refused as NotWritten, noRecord}
 use Rattle.calls.specs.Search.{searchCall}
 use Rattle.calls.specs.Route.{routeCall}
 use Rattle.calls.specs.Query.{queryCall}
+use Rattle.calls.specs.QueryTwo.{queryTwoCall}
 use Rattle.calls.specs.Change.{openCall, insertCall, removeCall}
 use Rattle.calls.specs.Card.{readCall, writeCall}
 
@@ -56,11 +58,16 @@ abbrev pub writeNumber : Wrote → ℕ
 writeNumber (Length n) = 0
 writeNumber (NotWritten n) = n
 
--- what an accepted question leaves
-pub record Leaves (totals pattern : List ℕ) (m m′ : Memory) : Type 0 where
-  pub lacking : Lacks totals pattern → m′ ≡ m
-  pub once : MinRepeat pattern pattern → m′ ≡ m
-  pub repeating : ¬ Lacks totals pattern → ¬ MinRepeat pattern pattern → m′ ≡ cleared m
+abbrev pub twoNumber : TwoAnswered → ℕ
+twoNumber (TwoYes m) = 0
+twoNumber TwoNo = 0
+twoNumber (TwoRefused n) = n
+
+-- what an accepted question leaves, if a label is lacking, if each pattern is written once, and else
+pub record Leaves (Lacking Once : Type 0) (m m′ : Memory) : Type 0 where
+  pub lacking : Lacking → m′ ≡ m
+  pub once : Once → m′ ≡ m
+  pub repeating : ¬ Lacking → ¬ Once → m′ ≡ cleared m
 
 -- what an accepted route leaves: work memory zero, and walk memory as it was, but for the slots of its edges
 pub record LeavesWalk (m : Memory) (c : Outcome Routed) : Type 0 where
@@ -78,7 +85,13 @@ pub record Demand1 : Type 0 where
   -- lacking; "other questions leave it as found". Nothing else is changed
   pub queries : (h : Header) (start destination : ℕ) (pattern : List ℕ) (m : Memory) →
       let c = queryCall h start destination pattern m in
-      Keeps m c (queryNumber (c .reply)) × (queryNumber (c .reply) ≡ 0 → Leaves (h .totals) pattern m (c .memory))
+      Keeps m c (queryNumber (c .reply)) × (queryNumber (c .reply) ≡ 0 → Leaves (Lacks (h .totals) pattern) (MinRepeat pattern pattern) m (c .memory))
+  -- document 02, Five: the same of two patterns, of which either may lack a label or repeat itself
+  pub queries-two : (h : Header) (start destination : ℕ) (first second : List ℕ) (m : Memory) →
+      let c = queryTwoCall h start destination first second m in
+      Keeps m c (twoNumber (c .reply))
+      × (twoNumber (c .reply) ≡ 0
+      → Leaves (Lacks (h .totals) first ⊎ Lacks (h .totals) second) (MinRepeat first first × MinRepeat second second) m (c .memory))
   -- an accepted plain check zeroes work memory, and changes nothing else
   pub searches : (size : Size) (start destination : ℕ) (pattern : List ℕ) (limit : ℕ) (m : Memory) →
       let c = searchCall size start destination pattern limit m in

@@ -1,7 +1,7 @@
 -- Demand 2: replies are right on the record and index that the last accepted change left, for a pattern that repeats itself and for routes on its
 -- edges too, and cards restore what they were written from.
 use mathlib.Core.Path.{_≡_}
-use mathlib.Core.Logic.{_↔_, _≢_}
+use mathlib.Core.Logic.{_↔_, _≢_, _⊎_}
 use mathlib.Core.List.{List, [], _++_}
 use Prim.Native.Nat.{ℕ, _+_, _*_, _≤_, _<_}
 use lib.ListN.{length, take, drop}
@@ -12,10 +12,12 @@ use Rattle.model.specs.Patterns.{Keyed, MinRepeat, Pattern}
 use Rattle.model.specs.Walks.{Runs}
 use Rattle.model.specs.Routes.{Route, Routed, Yes as RoutedYes, No as RoutedNo, Refused as RoutedRefused}
 use Rattle.model.specs.Query.{Answered, Yes, No, Refused}
+use Rattle.model.specs.Middles.{Middle, Least, No as TwoNo, Refused as TwoRefused}
 use Rattle.model.specs.Computed.Entries.{determined}
 use Rattle.calls.specs.Call.{Size, Header, Lacks, graphOf, Memory, lent, lentOut, Outcome, Returned, Length}
 use Rattle.calls.specs.Route.{routeCall}
 use Rattle.calls.specs.Query.{fullCall, queryCall}
+use Rattle.calls.specs.QueryTwo.{queryTwoCall}
 use Rattle.calls.specs.Change.{openCall, insertCall, removeCall}
 use Rattle.calls.specs.Card.{readCall, writeCall}
 
@@ -30,6 +32,30 @@ pub data Lit (g : Graph) (l : List ℕ) (s t : ℕ) (walk : List ℕ) : Routed �
   lit : (es : List ℕ) → Route g l s t es → length es ≤ length walk → Lit g l s t walk (RoutedYes (length es)) (es ++ drop (length es) walk)
   short : (es : List ℕ) → Route g l s t es → length walk < length es → Lit g l s t walk (RoutedRefused 18) walk
   none : ¬ Runs g l s t → Lit g l s t walk RoutedNo walk
+
+-- what is lent suffices for a question by two patterns (document 02, Five): "3 and 4 if either pattern repeats itself"
+pub data Suffices (edges first second other work : List ℕ) : Type 0 where
+  written-once : MinRepeat first first → MinRepeat second second → Suffices edges first second other work
+  as-left : other ≡ edges → leastWork ≤ length work → Suffices edges first second other work
+
+-- out by one pattern and home by another, put with the record, edge memory and index memory that a change left
+pub record RightTwo (h : Header) (edges index : List ℕ) (g : Graph) (start destination : ℕ) (first second : List ℕ) : Type 0 where
+  -- "the reply is yes exactly when some place m has a walk from the start running the first pattern and a walk from m to the destination running the
+  -- second, each at least one whole time .. The lowest such m is given with the yes"
+  pub least : start < g .vertices → destination < g .vertices → Keyed (g .longest) first → Keyed (g .longest) second
+      → (other work : List ℕ) → Suffices edges first second other work
+      → Least (Middle g first second start destination) (queryTwoCall h start destination first second (lent other index work) .reply)
+  -- with a label that no edge has in either it is a no, whatever memory is lent, and that is right
+  pub lacking : start < g .vertices → destination < g .vertices → Keyed (g .longest) first → Keyed (g .longest) second
+      → Lacks (h .totals) first ⊎ Lacks (h .totals) second → (m : Memory)
+      → (queryTwoCall h start destination first second m .reply ≡ TwoNo) × ((v : ℕ) → ¬ Middle g first second start destination v)
+  -- every other question is refused: with those edges and less work memory; and, whatever is lent, with an end that is no vertex or by what is no pattern
+  pub less : start < g .vertices → destination < g .vertices → Keyed (g .longest) first → Keyed (g .longest) second
+      → ¬ (MinRepeat first first × MinRepeat second second) → ¬ (Lacks (h .totals) first ⊎ Lacks (h .totals) second)
+      → (work : List ℕ) → length work < leastWork → queryTwoCall h start destination first second (lent edges index work) .reply ≡ TwoRefused 4
+  pub ends : ¬ ((start < g .vertices) × (destination < g .vertices)) → (m : Memory) → queryTwoCall h start destination first second m .reply ≡ TwoRefused 10
+  pub patterns : start < g .vertices → destination < g .vertices → ¬ (Keyed (g .longest) first × Keyed (g .longest) second) → (m : Memory)
+      → queryTwoCall h start destination first second m .reply ≡ TwoRefused 11
 
 -- (a) queries (questions) put with the record, edge memory and index memory that a change left; the edges that then stand are those of the graph
 pub record Right (h : Header) (edges index : List ℕ) (g : Graph) : Type 0 where
@@ -68,6 +94,7 @@ pub record Right (h : Header) (edges index : List ℕ) (g : Graph) : Type 0 wher
       → (walk work : List ℕ) → leastWork ≤ length work → mostLongest * mostVertices ≤ length walk
       → (queryCall h start destination pattern (lent edges index work) .reply ≡ Yes)
       ↔ ((n : ℕ) × (routeCall (h .size) start destination pattern (lentOut edges work walk) .reply ≡ RoutedYes n))
+  pub two : (start destination : ℕ) (first second : List ℕ) → RightTwo h edges index g start destination first second
 
 -- put with the record that a change handed back and the memory that it left, to the edges that stand in the edge memory that it left
 abbrev pub RightAfter : Outcome Returned → Type 0

@@ -13,7 +13,8 @@ use Rattle.model.specs.Patterns.{times, Keyed, MinRepeat}
 use Rattle.model.specs.Walks.{Spells, Runs}
 use Rattle.model.specs.Order.{weight, Before, Names}
 use Rattle.model.specs.Entries.{IsEntry}
-use Rattle.model.specs.Query.{Coded, OfEntry, Answers, No}
+use Rattle.model.specs.Query.{Coded, OfEntry, Answers, Yes as AnsweredYes, No}
+use Rattle.model.specs.Middles.{Least}
 use Rattle.model.specs.Routes.{Yes as RoutedYes, Refused}
 use Rattle.model.specs.States.{Yes, state, Reply}
 use Rattle.model.specs.Computed.Edges.{edgeMemory?}
@@ -27,7 +28,8 @@ use Rattle.calls.specs.Call.{Size, Header, Lacks, graphOf, Memory}
 use Rattle.calls.specs.Search.{searchCall}
 use Rattle.calls.specs.Route.{routeCall}
 use Rattle.calls.specs.Query.{queryCall}
-use Rattle.demands.specs.Demand1.{searchNumber, queryNumber}
+use Rattle.calls.specs.QueryTwo.{queryTwoCall}
+use Rattle.demands.specs.Demand1.{searchNumber, queryNumber, twoNumber}
 use Rattle.demands.specs.Demand2.{Judged, Lit}
 
 -- what an accepted plain check (level search) replies
@@ -36,6 +38,10 @@ pub record Replies (g : Graph) (l : List ℕ) (s t limit : ℕ) (r : Reply) : Ty
   pub told : Told g l s t limit r
   -- "An allowance of 1,025 always gives yes or no", and yes exactly if a walk runs the pattern
   pub decides : enoughLevels ≤ limit → Decides g l s t r
+
+-- the single question is a yes
+abbrev pub Said : Header → (start destination : ℕ) → List ℕ → Memory → Type 0
+Said h start destination pattern m = queryCall h start destination pattern m .reply ≡ AnsweredYes
 
 -- of a graph
 pub record GraphMeaning (g : Graph) : Type 0 where
@@ -85,6 +91,12 @@ pub record Meaning : Type 0 where
   pub lacking : (h : Header) (start destination : ℕ) (pattern : List ℕ) (m : Memory) → Bounds (h .size .vertices) (h .size .longest)
       → start < h .size .vertices → destination < h .size .vertices → Keyed (h .size .longest) pattern → Lacks (h .totals) pattern
       → queryCall h start destination pattern m ≡ record { reply = No; memory = m }
+  -- document 02, Five: two patterns, on whatever record and memory, that are not refused: "m counts where the two single questions, from the start to m
+  -- and from m to the destination, would both be a yes"; "The lowest such m is given with the yes"
+  pub two : (h : Header) (start destination : ℕ) (first second : List ℕ) (m : Memory) →
+      let r = queryTwoCall h start destination first second m .reply in
+      twoNumber r ≡ 0
+      → Least (λ v. (v < h .size .vertices) × (Said h start v first m × Said h v destination second m)) r
   -- document 02, Three: "The checks are the plain check's", and past them the route is given, on whatever record and memory
   pub routes : (size : Size) (start destination : ℕ) (pattern : List ℕ) (limit : ℕ) (m : Memory) →
       let n = searchNumber (searchCall size start destination pattern limit m .reply) in

@@ -1,12 +1,15 @@
--- The front of work memory that the levels use: zeroed, it is zeros; and putting it back keeps the length.
+-- The front of work memory that a search uses, or its marks alone: zeroed, it is zeros; and putting it back keeps the length.
 use mathlib.Core.Path.{_≡_, sym, ap, _∙_}
 use mathlib.Core.List.{List, _++_}
 use Prim.Native.Nat.{ℕ, _≤_}
+use native.Mathlib.Omega.{arith}
 use lib.ListN.{length, take, drop, replicate, length-replicate}
 use lib.Seq.{take-at, length-front}
 use Rattle.model.specs.Limits.{leastWork}
 use Rattle.model.specs.Lists.{zeroed}
-use Rattle.memory.proofs.Parts.{zeros-front, zeros-long}
+use Rattle.model.specs.Computed.Levels.{mostStates}
+use Rattle.memory.proofs.Parts.{zeros-front, zeros-long, zeros-first}
+use Rattle.level_search.specs.Work.{Unmarked}
 
 module _ (w front : List ℕ) (long : leastWork ≤ length w) (cleared : front ≡ zeroed (take leastWork w)) where
   zeros : front ≡ replicate leastWork 0
@@ -33,3 +36,14 @@ module _ (w front : List ℕ) (long : leastWork ≤ length w) (cleared : front �
   pub front-again : (after : List ℕ) → length after ≡ length (take leastWork (front ++ drop leastWork w))
       → take leastWork (after ++ drop leastWork (front ++ drop leastWork w)) ≡ after
   front-again after e = take-at after (drop leastWork (front ++ drop leastWork w)) leastWork (e ∙ front-length)
+
+-- the marks alone zeroed: no state is marked then, and memory is as long as it was
+module _ (w : List ℕ) {front : List ℕ} (long : leastWork ≤ length w) (cleared : front ≡ zeroed (take mostStates w)) where
+  room : mostStates ≤ length w
+  room = omega (arith, long)
+
+  pub marks-long : length (front ++ drop mostStates w) ≡ length w
+  marks-long = zeros-long w mostStates room cleared
+
+  pub marks-cleared : Unmarked (front ++ drop mostStates w)
+  marks-cleared = record { long = omega (arith, long, marks-long); zeros = zeros-first w mostStates room cleared }

@@ -6,7 +6,7 @@ use mathlib.Core.List.{List, [], _∷_}
 use Prim.Native.Nat.{ℕ, zero, suc, _+_, _≤_, _<_, zero-le}
 use native.Mathlib.Nat.{not-suc-le-zero, le-of-suc-le-suc}
 use native.Mathlib.Omega.{arith}
-use lib.ListN.{length, getD, take, set, replicate, length-take}
+use lib.ListN.{length, getD, take, set, length-take}
 use lib.Seq.{take-set-le, take-set-lt, getD-take}
 use lib.Dec.{eqb}
 use borrow.Author.Tests.{ne-eqb}
@@ -42,12 +42,14 @@ pub marks-le : (w : List ℕ) → marks w ≤ mostStates
 unfolding marks
 marks-le w = omega (arith, ones-le (take mostStates w), length-take mostStates w)
 
-ones-zero : (n m : ℕ) → ones (take n (replicate m 0)) ≡ 0
+ones-none : (l : List ℕ) → ((i : ℕ) → i < length l → getD l i 0 ≡ 0) → ones l ≡ 0
 unfolding ones
-ones-zero zero m = refl
-ones-zero (suc n) zero = refl
-ones-zero (suc n) (suc m) = omega (arith, ones-zero n m)
+ones-none [] h = refl
+ones-none (x ∷ xs) h = let z : x ≡ 0 = h 0 (omega arith) in rw z (omega (arith, ones-none xs (λ i k. h (suc i) (omega arith))))
 
-pub marks-zero : (n : ℕ) → marks (replicate n 0) ≡ 0
+pub marks-none : (w : List ℕ) → ((y : ℕ) → y < mostStates → getD w y 0 ≡ 0) → marks w ≡ 0
 unfolding marks
-marks-zero n = ones-zero mostStates n
+marks-none w h = ones-none (take mostStates w) (λ i k. inside i (omega (arith, length-take mostStates w)))
+  where
+    inside : (i : ℕ) → i < mostStates → getD (take mostStates w) i 0 ≡ 0
+    inside i k = getD-take mostStates w i 0 k ∙ h i k

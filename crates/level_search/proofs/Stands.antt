@@ -7,9 +7,9 @@ use Prim.Native.Nat.{ℕ, suc, _+_, _-_, _/_, _≤_, _<_, zero-le}
 use native.Mathlib.Nat.{le-refl, eq-or-lt-of-le, le-of-suc-le-suc, sub-zero}
 use native.Mathlib.Numerals.{add-one}
 use native.Mathlib.Omega.{arith}
-use lib.ListN.{getD, set, replicate, length-set, length-replicate, getD-replicate}
+use lib.ListN.{getD, set, length-set}
 use lib.Seq.{getD-set-same, getD-set-other}
-use Rattle.model.specs.Limits.{mostVertices, leastWork}
+use Rattle.model.specs.Limits.{mostVertices}
 use Rattle.model.specs.Lists.{_∈_}
 use Rattle.model.specs.States.{IsState, vertexOf, Leads, Yes, No, Spent}
 use Rattle.model.specs.Computed.Edges.{bare}
@@ -18,9 +18,9 @@ use Rattle.model.specs.Levels.{Fresh, Reached}
 use Rattle.model.proofs.Levels.{Met, look, level-zero, level-iff}
 use Rattle.model.proofs.Search.{reply-yes, reply-no, reply-on}
 use Rattle.model.proofs.Edges.{edge-to}
-use Rattle.level_search.specs.Work.{queue, Room, At, Grown, LedTo, Fit, Short}
+use Rattle.level_search.specs.Work.{queue, Room, Unmarked, At, Grown, LedTo, Fit}
 use Rattle.level_search.specs.Run.{Searchable, foundBy}
-use Rattle.level_search.proofs.Marks.{marks-far, marks-zero}
+use Rattle.level_search.proofs.Marks.{marks-far, marks-none}
 use Rattle.level_search.proofs.Leads.{leads-fit}
 
 module _ (vertices : ℕ) (edges l : List ℕ) (s : ℕ) where
@@ -83,28 +83,28 @@ module _ (vertices : ℕ) (edges l : List ℕ) (s : ℕ) where
     }
 
   -- at the start
-  pub stands-start : (n : ℕ) → s < mostVertices → Short l → leastWork ≤ n → LevelStands 0 (set (replicate n 0) mostStates s) 0 1
-  stands-start n h sh b = record {
+  pub stands-first : {t : ℕ} → Searchable vertices edges l s t → {w : List ℕ} → Unmarked w → LevelStands 0 (set w mostStates s) 0 1
+  stands-first p {w} u = record {
     room = record {
-      long = omega (arith, length-set (replicate n 0) mostStates s, length-replicate {A = ℕ} n 0);
-      count = omega (arith, marks-far (replicate n 0) mostStates s (le-refl mostStates), marks-zero n);
+      long = omega (arith, length-set w mostStates s, u .long);
+      count = omega (arith, marks-far w mostStates s (le-refl mostStates), marks-none w (u .zeros));
     };
     ends = zero-le;
-    fit = λ k p q. omega (arith, queue-is k q, sh .least);
-    in-level = λ k p q. level-zero (bare vertices edges) l s _ .1 (queue-is k q);
+    fit = λ k _ q. omega (arith, queue-is k q, p .start, p .vertices-small, p .short .least);
+    in-level = λ k _ q. level-zero (bare vertices edges) l s _ .1 (queue-is k q);
     all-level = λ y m. record { k = 0; from = zero-le; to = omega arith; is = queue-is 0 (omega arith) ∙ sym (level-zero (bare vertices edges) l s y .0 m) };
-    in-met = λ y p e. absurd (omega (arith, mark-is y p));
+    in-met = λ y h e. absurd (omega (arith, mark-is y h));
     all-met = λ y m. absurd (omega (arith, m .first, m .last));
   }
     where
-      queue-is : (k : ℕ) → k < 1 → queue (set (replicate n 0) mostStates s) k ≡ s
-      queue-is k q = rw (zero-of k q) (getD-set-same (replicate n 0) mostStates s 0 (omega (arith, length-replicate {A = ℕ} n 0)))
+      queue-is : (k : ℕ) → k < 1 → queue (set w mostStates s) k ≡ s
+      queue-is k q = rw (zero-of k q) (getD-set-same w mostStates s 0 (omega (arith, u .long)))
         where
           zero-of : (k : ℕ) → k < 1 → mostStates + k ≡ mostStates
           zero-of k q = omega arith
 
-      mark-is : (y : ℕ) → y < mostStates → getD (set (replicate n 0) mostStates s) y 0 ≡ 0
-      mark-is y p = getD-set-other (replicate n 0) mostStates y s 0 (omega arith) ∙ getD-replicate n y 0 0 (omega arith)
+      mark-is : (y : ℕ) → y < mostStates → getD (set w mostStates s) y 0 ≡ 0
+      mark-is y h = getD-set-other w mostStates y s 0 (omega arith) ∙ u .zeros y h
 
   -- ---- the reply
 

@@ -3,9 +3,11 @@ use mathlib.Core.Path.{_≡_}
 use mathlib.Core.Bool.{Bool, true}
 use mathlib.Core.List.{List}
 use Prim.Native.Nat.{ℕ, _≤_, _<_}
-use lib.ListN.{length}
+use lib.ListN.{length, getD}
+use lib.Dec.{eqb}
 use Rattle.model.specs.Limits.{mostVertices, leastWork}
 use Rattle.model.specs.Lists.{_∈_, Rising, zeroed}
+use Rattle.model.specs.Tables.{Tabulates}
 use Rattle.model.specs.Patterns.{Keyed}
 use Rattle.model.specs.States.{Reply}
 use Rattle.model.specs.Replies.{numberOf, replyOf}
@@ -40,6 +42,14 @@ pub record Searches (vertices : ℕ) (edges l : List ℕ) (s t limit : ℕ) (wor
 pub record Tells (vertices : ℕ) (edges l : List ℕ) (s t : ℕ) (work : List ℕ) (found : Bool) (work′ : List ℕ) : Type 0 where
   pub is : found ≡ runs? (bare vertices edges) l s t
   pub work-after : work′ ≡ zeroed work
+
+-- all levels are built: the mark of t says whether a walk from s runs l to it
+pub record Flooded (vertices : ℕ) (edges l : List ℕ) (s : ℕ) (work : List ℕ) : Type 0 where
+  pub is : (t : ℕ) → t < vertices → eqb (getD work t 0) 1 ≡ runs? (bare vertices edges) l s t
+
+-- a search from s for every vertex: which of them a walk from s runs l to
+pub record TellsFrom (vertices : ℕ) (edges l : List ℕ) (s : ℕ) (table : List Bool) : Type 0 where
+  pub is : Tabulates vertices table (λ t. runs? (bare vertices edges) l s t)
 
 -- ---- what the call's checks hand on
 

@@ -33,6 +33,11 @@ pub record Room (w : List ℕ) (n : ℕ) : Type 0 where
   pub long : leastWork ≤ length w
   pub count : n ≡ marks w + 1
 
+-- work memory is long enough, and no state is marked
+pub record Unmarked (w : List ℕ) : Type 0 where
+  pub long : leastWork ≤ length w
+  pub zeros : (y : ℕ) → y < mostStates → getD w y 0 ≡ 0
+
 -- the slot of the queue, from n up to n′, at which y stands
 pub record At (w : List ℕ) (n n′ y : ℕ) : Type 0 where
   pub k : ℕ

@@ -10,17 +10,19 @@ use model::SearchReply;
 ghost use mathlib.Core.Path.{_≡_};
 ghost use mathlib.Core.List.{[]};
 ghost use Prim.Native.Nat.{_+_, _*_, _≤_, _<_, _^_};
-ghost use lib.ListN.{length};
+ghost use lib.ListN.{length, getD};
+ghost use lib.Dec.{eqb};
 ghost use Rattle.model.specs.Limits.{mostVertices, labelUnit, leastWork};
-ghost use Rattle.model.specs.Lists.{Rising, zeroed};
+ghost use Rattle.model.specs.Lists.{Rising};
 ghost use Rattle.model.specs.States.{Leads};
 ghost use Rattle.model.specs.Replies.{replyOf};
+ghost use Rattle.model.specs.Tables.{Tabulates};
 ghost use Rattle.model.specs.Computed.Levels.{mostStates};
 ghost use Rattle.edges.specs.Slots.{Under, Starts};
 ghost use Rattle.calls.specs.Call.{lent, Meets};
 ghost use Rattle.calls.specs.Search.{searchCall};
-ghost use Rattle.level_search.specs.Work.{Room, Grown, Ahead, LedTo, Fit, Short};
-ghost use Rattle.level_search.specs.Run.{Searchable, foundBy, Searches, Tells, SearchChecks};
+ghost use Rattle.level_search.specs.Work.{Room, Unmarked, Grown, Ahead, LedTo, Fit, Short};
+ghost use Rattle.level_search.specs.Run.{Searchable, foundBy, Searches, Tells, Flooded, TellsFrom, SearchChecks};
 
 // The model's number, in the width of a level limit.
 const ENOUGH_LEVELS: u32 = model::ENOUGH_LEVELS as u32;
@@ -105,7 +107,7 @@ fn next_level(
     n
 }
 
-// The levels, over work memory that is zero.
+// The levels, over work memory in which no state is marked.
 fn levels(
     vertices: u32,
     edges: &[u32],
@@ -116,7 +118,7 @@ fn levels(
     work: &mut [u64],
 ) -> SearchReply
     requires { ⌜ Searchable vertices (now edges) (now pattern) s t ⌝ }
-    requires { ⌜ (leastWork ≤ length (now work)) × (now work ≡ zeroed (now work)) ⌝ }
+    requires { ⌜ Unmarked (now work) ⌝ }
     ensures { λ r. ⌜ replyOf r ≡ foundBy vertices (now (edges .entry)) (now (pattern .entry)) s t limit ⌝ }
 {
     let slots = edges::first_slots(vertices, edges);
@@ -152,16 +154,8 @@ pub fn run(
     requires { ⌜ Searchable vertices (now edges) (now pattern) s t × (leastWork ≤ length (now work)) ⌝ }
     ensures { λ r. ⌜ Searches vertices (now (edges .entry)) (now (pattern .entry)) s t limit (now (work .entry)) r (now (work .exit)) ⌝ }
 {
-    memory::clear_u64(&mut work[..LEAST_WORK]);
-    let reply = levels(
-        vertices,
-        edges,
-        pattern,
-        s,
-        t,
-        limit,
-        &mut work[..LEAST_WORK],
-    );
+    memory::clear_u64(&mut work[..QUEUE]);
+    let reply = levels(vertices, edges, pattern, s, t, limit, work);
     memory::clear_u64(work);
     reply
 }
@@ -185,6 +179,53 @@ pub fn is_run(
         SearchReply::Spent(_) => false,
         SearchReply::Refused(_) => false,
     }
+}
+
+// All levels, over work memory in which no state is marked: ends with a mark for every state that is met.
+fn flood(vertices: u32, edges: &[u32], pattern: &[u8], s: u32, work: &mut [u64])
+    requires { ⌜ Searchable vertices (now edges) (now pattern) s s ⌝ }
+    requires { ⌜ Unmarked (now work) ⌝ }
+    ensures { λ _. ⌜ Flooded vertices (now (edges .entry)) (now (pattern .entry)) s (now (work .exit)) ⌝ }
+{
+    let slots = edges::first_slots(vertices, edges);
+    work[QUEUE] = s as u64;
+    let mut lo = 0;
+    let mut hi = 1;
+    while lo < hi {
+        let end = next_level(edges, &slots, pattern, work, lo, hi);
+        lo = hi;
+        hi = end;
+    }
+}
+
+// The marks of the vertices with no label used: the states below 256.
+fn marked(work: &[u64]) -> [bool; MOST_VERTICES]
+    requires { ⌜ leastWork ≤ length (now work) ⌝ }
+    ensures { λ r. ⌜ Tabulates mostVertices r (λ v. eqb (getD (now (work .entry)) v 0) 1) ⌝ }
+{
+    let mut table = [false; MOST_VERTICES];
+    let mut v = 0;
+    while v < MOST_VERTICES {
+        table[v] = work[v] == 1;
+        v += 1;
+    }
+    table
+}
+
+// To which vertices a walk from s runs the pattern. Work memory may hold anything, and does so afterwards.
+pub fn reached(
+    vertices: u32,
+    edges: &[u32],
+    pattern: &[u8],
+    s: u32,
+    work: &mut [u64],
+) -> [bool; MOST_VERTICES]
+    requires { ⌜ Searchable vertices (now edges) (now pattern) s s × (leastWork ≤ length (now work)) ⌝ }
+    ensures { λ r. ⌜ TellsFrom vertices (now (edges .entry)) (now (pattern .entry)) s r ⌝ }
+{
+    memory::clear_u64(&mut work[..QUEUE]);
+    flood(vertices, edges, pattern, s, work);
+    marked(work)
 }
 
 // The checks 1 2 3 4 10 11, in that order.

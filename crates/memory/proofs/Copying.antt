@@ -1,12 +1,12 @@
--- The loops that zero memory and copy it, for both widths.
+-- The loops that zero memory, copy it, and put what a function makes of each number, for both widths.
 use mathlib.Core.Path.{_≡_, sym, _∙_}
-use mathlib.Core.List.{List, _++_}
+use mathlib.Core.List.{List, map, _++_}
 use Prim.Native.Nat.{ℕ, _+_, _-_, _^_, _≤_, _<_}
 use native.Mathlib.Omega.{arith}
-use lib.ListN.{length, getD, take, drop, set, length-append, length-drop, length-replicate, getD-replicate, List·getD-append}
+use lib.ListN.{length, getD, take, drop, set, length-append, length-drop, length-replicate, length-map, getD-replicate, List·getD-append}
 use lib.Seq.{getD-take, getD-drop, getD-append-add, length-take-le}
 use Rattle.model.specs.Lists.{zeroed}
-use Rattle.model.proofs.Lists.{getD-in}
+use Rattle.model.proofs.Lists.{getD-in, getD-map}
 use Rattle.memory.specs.Widths.{Narrow}
 use Rattle.memory.proofs.Mix.{Mixed, front-none, front-turn, front-end}
 
@@ -49,3 +49,11 @@ module _ (l s : List ℕ) (room : length l ≤ length s) where
   narrow-fits f i h =
       let inside : i < length (take (length l) s) = omega (arith, length-take-le (length l) s room) in
       f (getD s i 0) (rw (getD-take (length l) s i 0 h) at (getD-in (take (length l) s) i inside))
+
+-- f x is put for each x
+pub map-start : (f : ℕ → ℕ) (l : List ℕ) {to : List ℕ} → length l ≡ length to → Mixed (map f l) to to 0
+map-start f l e = front-none (length-map l f ∙ e)
+
+pub map-turn : (f : ℕ → ℕ) (l : List ℕ) {to cur : List ℕ} {i v : ℕ} → Mixed (map f l) to cur i → i < length l → v ≡ f (getD l i 0)
+    → Mixed (map f l) to (set cur i v) (i + 1)
+map-turn f l {i = i} m h e = front-turn m (omega (arith, m .same, m .size, length-map l f)) (e ∙ sym (getD-map f l i h))

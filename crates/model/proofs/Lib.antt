@@ -1,11 +1,13 @@
 pub mod Tests
 pub mod Lists
+pub mod Tables
 pub mod BinarySearch
 pub mod Patterns
 pub mod Table
 pub mod Walks
 pub mod Levels
 pub mod Search
+pub mod Reversal
 pub mod Order
 pub mod Index
 pub mod Entries

@@ -150,6 +150,12 @@ pub map-as : {A B : Type 0} {f g : A → B} (l : List A) → ((x : A) → List·
 map-as [] h = refl
 map-as (x ∷ l) h = ap₂ _∷_ (h x (List·Memᴰ·head refl)) (map-as l (λ z m. h z (List·Memᴰ·tail m)))
 
+pub keep-as : {A : Type 0} {f g : A → Bool} (l : List A) → ((x : A) → List·Memᴰ x l → f x ≡ g x) → keep f l ≡ keep g l
+unfolding keep
+keep-as [] h = refl
+keep-as {A} {f} {g} (x ∷ l) h =
+    ap₂ (λ (b : Bool) (m : List A). put b x m) (h x (List·Memᴰ·head refl)) (keep-as l (λ z m. h z (List·Memᴰ·tail m)))
+
 -- ---- lists by their indices
 
 -- of any elements, with d (and e) for what stands behind the last

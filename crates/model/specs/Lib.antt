@@ -1,9 +1,12 @@
 pub mod Limits
 pub mod Lists
+pub mod Tables
 pub mod Edges
+pub mod Turned
 pub mod Patterns
 pub mod Walks
 pub mod Routes
+pub mod Middles
 pub mod Order
 pub mod Entries
 pub mod Query

@@ -3,6 +3,7 @@ use Prim.Native.Nat.{ℕ}
 use Rattle.model.specs.Query.{Answered, Yes as AnsweredYes, No as AnsweredNo, Refused as AnsweredRefused}
 use Rattle.model.specs.States.{Reply, Yes, No, Spent, Refused}
 use Rattle.model.specs.Routes.{Routed, Yes as RoutedYes, No as RoutedNo, Refused as RoutedRefused}
+use Rattle.model.specs.Middles.{TwoAnswered, Yes as TwoAnsweredYes, No as TwoAnsweredNo, Refused as TwoAnsweredRefused}
 use Rattle.model.specs.declared.Refusal.{Refusal}
 use Rattle.model.specs.declared.Refusal.the-variants.{Vertices, Longest, EdgeMemory, WorkMemory, EdgeEnd, EdgeLabel, EdgePresent, EdgeAbsent, EdgeSlots, QueryEnd, QueryPattern, IndexMemory, IndexSlots, CardMark, CardVersion, CardEdges, CardOutput, WalkMemory}
 use Rattle.model.specs.declared.Answer.{Answer}
@@ -13,6 +14,8 @@ use Rattle.model.specs.declared.QueryReply.{QueryReply}
 use Rattle.model.specs.declared.QueryReply.the-variants.{Yes as QueryYes, No as QueryNo, Refused as QueryRefused}
 use Rattle.model.specs.declared.RouteReply.{RouteReply}
 use Rattle.model.specs.declared.RouteReply.the-variants.{Yes as RouteYes, No as RouteNo, Refused as RouteRefused}
+use Rattle.model.specs.declared.TwoReply.{TwoReply}
+use Rattle.model.specs.declared.TwoReply.the-variants.{Yes as TwoYes, No as TwoNo, Refused as TwoRefused}
 
 -- "Number and condition"
 abbrev pub numberOf : Refusal → ℕ
@@ -58,3 +61,9 @@ abbrev pub routedOf : RouteReply → Routed
 routedOf (RouteYes n) = RoutedYes n
 routedOf RouteNo = RoutedNo
 routedOf (RouteRefused r) = RoutedRefused (numberOf r)
+
+-- yes with the lowest middle, no, refused n
+abbrev pub twoAnsweredOf : TwoReply → TwoAnswered
+twoAnsweredOf (TwoYes m) = TwoAnsweredYes m
+twoAnsweredOf TwoNo = TwoAnsweredNo
+twoAnsweredOf (TwoRefused r) = TwoAnsweredRefused (numberOf r)

@@ -104,3 +104,10 @@ pub enum RouteReply {
     No,
     Refused(Refusal),
 }
+
+// What a query by two patterns replies: yes with the lowest middle, no, or refused.
+pub enum TwoReply {
+    Yes(u32),
+    No,
+    Refused(Refusal),
+}

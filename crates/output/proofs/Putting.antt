@@ -1,40 +1,21 @@
--- Staged entries put back one by one, and what stays true of them: they are distinct and narrow.
+-- Staged entries put back: they are distinct and narrow as before.
 use mathlib.Core.Path.{_≡_, sym, ap, _∙_}
 use mathlib.Core.List.{List, map, Memᴰ·of-map}
-use Prim.Native.Nat.{ℕ, _+_, _<_, _^_}
+use Prim.Native.Nat.{ℕ, _<_, _^_}
 use native.Mathlib.Omega.{arith}
-use lib.ListN.{length, getD, set, length-map}
+use lib.ListN.{length, getD}
 use Rattle.model.specs.Limits.{mostVertices}
 use Rattle.model.specs.Lists.{_∈_}
 use Rattle.model.specs.Order.{rank, Names}
 use Rattle.model.specs.Entries.{entryOf}
 use Rattle.model.specs.Computed.Query.{sideOf, ownerOf, hubOf, codeOf}
 use Rattle.model.specs.Build.Renumber.{translate}
-use Rattle.model.proofs.Lists.{getD-in, getD-map}
+use Rattle.model.proofs.Lists.{getD-in}
 use Rattle.model.proofs.Ranks.{rank-at, names-length}
 use Rattle.model.proofs.Renumber.{entry-fields}
-use Rattle.memory.proofs.Mix.{Mixed, front-none, front-turn}
 use Rattle.sort.specs.Order.{narrowBits, Distinct, Sortable}
+use Rattle.sort.proofs.Apart.{map-distinct}
 use Rattle.output.specs.Output.{Translatable}
-
--- ---- a loop that puts f x for each x
-
-pub map-start : (f : ℕ → ℕ) (l : List ℕ) {to : List ℕ} → length l ≡ length to → Mixed (map f l) to to 0
-map-start f l e = front-none (length-map l f ∙ e)
-
-pub map-turn : (f : ℕ → ℕ) (l : List ℕ) {to cur : List ℕ} {i v : ℕ} → Mixed (map f l) to cur i → i < length l → v ≡ f (getD l i 0)
-    → Mixed (map f l) to (set cur i v) (i + 1)
-map-turn f l {i = i} m h e = front-turn m (omega (arith, m .same, m .size, length-map l f)) (e ∙ sym (getD-map f l i h))
-
--- ---- what stays true
-
-map-distinct : {l : List ℕ} (f : ℕ → ℕ) → Distinct l → ((x y : ℕ) → x ∈ l → y ∈ l → f x ≡ f y → x ≡ y) → Distinct (map f l)
-map-distinct {l} f d once = record {
-  once = λ i j h k e.
-      let b : j < length l = omega (arith, length-map l f) in
-      let a : i < length l = omega arith in
-      d .once i j h b (once _ _ (getD-in l i a) (getD-in l j b) (sym (getD-map f l i a) ∙ e ∙ getD-map f l j b));
-}
 
 -- an entry is known by its fields
 whole : (x : ℕ) → entryOf (sideOf x) (ownerOf x) (hubOf x) (codeOf x) ≡ x

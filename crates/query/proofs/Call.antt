@@ -15,12 +15,11 @@ use Rattle.model.specs.Replies.{numberOf}
 use Rattle.model.specs.Computed.Edges.{edgeMemory?}
 use Rattle.model.specs.Computed.Patterns.{once?}
 use Rattle.model.specs.Computed.Levels.{runs?}
-use Rattle.model.specs.Computed.Query.{entry?, indexMemory?, answers?}
+use Rattle.model.specs.Computed.Query.{indexMemory?, answers?}
 use Rattle.model.specs.declared.Refusal.{Refusal}
 use Rattle.model.specs.declared.Refusal.the-variants.{IndexMemory}
 use Rattle.model.proofs.Search.{runs-as}
-use Rattle.model.proofs.Zeros.{Ordered, filled-within, filled-front}
-use Rattle.model.proofs.IndexMemory.{index-memory, answers-alone}
+use Rattle.model.proofs.IndexMemory.{answers-alone}
 use Rattle.calls.specs.Checks.{Check, firstRefusal}
 use Rattle.calls.specs.Call.{Size, graphOf, Memory, lent, Meets}
 use Rattle.calls.specs.Query.{saying, askChecks, askRefusal, fullRefusal, byIndex, bySearch, fullCall}
@@ -30,7 +29,7 @@ use Rattle.calls.proofs.Change.{pass-first}
 use Rattle.calls.proofs.Query.{Allowed, ask-leaves, within}
 use Rattle.scan.specs.Memory.{extentOf}
 use Rattle.scan.specs.declared.Extent.the-variants.{Entries}
-use Rattle.scan.proofs.Scanning.{scans}
+use Rattle.scan.proofs.Scanning.{Entered, entered}
 use Rattle.answer.specs.Saying.{Answerable, Says}
 use Rattle.edges.proofs.Memory.{Scans}
 use Rattle.level_search.specs.Run.{Searchable, Tells}
@@ -75,24 +74,15 @@ module _ (h : Size) (s t : ℕ) (pattern index : List ℕ) (passed : askRefusal 
 
   -- check 12 has passed, and n entries stand
   module _ (n : ℕ) (scanned : extentOf (h .vertices) (h .longest) index ≡ Entries n) where
-    twelve : indexMemory? (h .vertices) (h .longest) index ≡ true
-    twelve = scans (h .vertices) (h .longest) index scanned .0
-
-    memory : Ordered (entry? (h .vertices) (h .longest)) 0 index (standing index)
-    memory = index-memory (h .vertices) (h .longest) index twelve
-
-    count : n ≡ length (standing index)
-    count = scans (h .vertices) (h .longest) index scanned .1
+    entries : Entered (h .vertices) (h .longest) index n
+    entries = entered (h .vertices) (h .longest) index scanned
 
     pub part-index : n ≤ length index
-    part-index = omega (arith, count, filled-within (standing index) (memory .zeros))
-
-    index-front : take n index ≡ standing index
-    index-front = ap (λ (k : ℕ). take k index) count ∙ filled-front (standing index) (memory .zeros)
+    part-index = entries .within
 
     pub answerable : Answerable (take n index) pattern s t
-    answerable = rw index-front (record {
-      rises = memory .sorted;
+    answerable = rw (entries .front) (record {
+      rises = entries .ordered .sorted;
       keyed = keyed;
       start-small = omega (arith, given, given .bounds);
       destination-small = omega (arith, given, given .bounds);
@@ -102,12 +92,12 @@ module _ (h : Size) (s t : ℕ) (pattern index : List ℕ) (passed : askRefusal 
         → Meets (askedCall h s t pattern (lent edges index work)) (saying b) (lent edges index work)
     unfolding askedCall
     asked b says edges work =
-        let q : Says (standing index) pattern s t b = rw index-front at says in
+        let q : Says (standing index) pattern s t b = rw (entries .front) at says in
         let same : b ≡ answers? (h .vertices) index pattern s t
-        = q .is (h .vertices) (h .longest) (given .bounds .vertices-most) (given .start-vertex) (given .destination-vertex) (record { rises = memory .sorted; valid = λ x k. memory .each x k .1 })
-        ∙ answers-alone memory (h .vertices) keyed s t in
+        = q .is (h .vertices) (h .longest) (given .bounds .vertices-most) (given .start-vertex) (given .destination-vertex) (record { rises = entries .ordered .sorted; valid = λ x k. entries .ordered .each x k .1 })
+        ∙ answers-alone (entries .ordered) (h .vertices) keyed s t in
         let checks : List Check = (12, indexMemory? (h .vertices) (h .longest) index) ∷ [] in
-        rw (accepted-is Refused (lent edges index work) (byIndex h s t pattern (lent edges index work)) (firstRefusal checks) (first-is (pass twelve none)))
+        rw (accepted-is Refused (lent edges index work) (byIndex h s t pattern (lent edges index work)) (firstRefusal checks) (first-is (pass (entries .memory) none)))
         (record { reply-is = ap saying same; edges-after = refl; index-after = refl; work-after = refl; output-after = refl })
 
 -- ---- a pattern that repeats itself

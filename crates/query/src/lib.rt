@@ -18,7 +18,7 @@ ghost use Rattle.calls.specs.Query.{saying, askRefusal, lacking?, queryCall};
 ghost use Rattle.query.specs.Call.{askedCall, searchedCall};
 
 // The checks that come before all memory, in their order: 1, 2, 10 and 11.
-fn check(vertices: u32, longest: u32, start: u32, destination: u32, pattern: &[u8]) -> Answer
+pub fn check(vertices: u32, longest: u32, start: u32, destination: u32, pattern: &[u8]) -> Answer
     ensures { λ r. ⌜ answerOf r ≡ askRefusal (record { vertices = vertices; longest = longest }) start destination (now (pattern .entry)) ⌝ }
 {
     let header = checks::check_header(vertices, longest);
@@ -35,7 +35,7 @@ fn check(vertices: u32, longest: u32, start: u32, destination: u32, pattern: &[u
 }
 
 // Whether a label of the pattern has total 0 in the record (document 02, Four).
-fn is_lacking(totals: [u32; MOST_LABEL], pattern: &[u8]) -> bool
+pub fn is_lacking(totals: [u32; MOST_LABEL], pattern: &[u8]) -> bool
     requires { ⌜ Keyed mostLongest (now pattern) ⌝ }
     ensures { λ r. ⌜ r ≡ lacking? totals (now (pattern .entry)) ⌝ }
 {

@@ -8,6 +8,7 @@ use lib.ListN.{length, getD, drop}
 use Rattle.model.specs.Query.{Answered, Yes as AnsweredYes, No as AnsweredNo, Refused as AnsweredRefused}
 use Rattle.model.specs.States.{Reply, Yes, No, Spent, Refused}
 use Rattle.model.specs.Routes.{Routed, Yes as RoutedYes, No as RoutedNo, Refused as RoutedRefused}
+use Rattle.model.specs.Middles.{TwoAnswered, Yes as TwoYes, No as TwoNo, Refused as TwoRefused}
 use Rattle.model.specs.Replies.{answerOf}
 use Rattle.calls.specs.Call.{Header, Memory, Outcome, Meets, Returned, Wrote, Length, Refused as NotWritten}
 use Rattle.store.specs.Store.{numbers}
@@ -55,7 +56,7 @@ answeredInC AnsweredYes = 100
 answeredInC AnsweredNo = 0
 answeredInC (AnsweredRefused n) = n
 
--- what stands above the levels, or the edges of a route, in a reply
+-- what stands above the levels, the edges of a route, or a middle, in a reply
 abbrev pub replyUnit : ℕ
 replyUnit = 2 ^ 32
 
@@ -71,6 +72,12 @@ abbrev pub routedInC : Routed → ℕ
 routedInC (RoutedYes n) = 100 * replyUnit + n
 routedInC RoutedNo = 0
 routedInC (RoutedRefused n) = n * replyUnit
+
+-- "reply × 2^32 + m: 100 with the lowest m, 0 no, else the number with 0"
+abbrev pub twoAnsweredInC : TwoAnswered → ℕ
+twoAnsweredInC (TwoYes m) = 100 * replyUnit + m
+twoAnsweredInC TwoNo = 0
+twoAnsweredInC (TwoRefused n) = n * replyUnit
 
 -- "number × 2^32 refused; the length accepted"
 abbrev pub wroteInC : Wrote → ℕ

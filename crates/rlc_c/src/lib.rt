@@ -5,6 +5,7 @@ use model::MOST_LABEL;
 use model::QueryReply;
 use model::RouteReply;
 use model::SearchReply;
+use model::TwoReply;
 use store::Changed;
 use store::Header;
 use store::Written;
@@ -17,10 +18,11 @@ ghost use Rattle.calls.specs.Call.{lent, lentOut, Meets};
 ghost use Rattle.calls.specs.Search.{searchCall};
 ghost use Rattle.calls.specs.Route.{routeCall};
 ghost use Rattle.calls.specs.Query.{queryCall};
+ghost use Rattle.calls.specs.QueryTwo.{queryTwoCall};
 ghost use Rattle.calls.specs.Change.{openCall, insertCall, removeCall};
 ghost use Rattle.calls.specs.Card.{readCall, writeCall};
 ghost use Rattle.store.specs.Store.{numbers};
-ghost use Rattle.rlc_c.specs.Interface.{headerIn, recordNumbers, otherRecord, replyUnit, inC, HandsBack, ChangesInC, answeredInC, repliedInC, routedInC, wroteInC};
+ghost use Rattle.rlc_c.specs.Interface.{headerIn, recordNumbers, otherRecord, replyUnit, inC, HandsBack, ChangesInC, answeredInC, twoAnsweredInC, repliedInC, routedInC, wroteInC};
 
 // How many numbers a record has: vertices, longest pattern, and a total for each label.
 const RECORD: usize = 2 + MOST_LABEL;
@@ -31,7 +33,7 @@ const YES: u32 = 100;
 
 const SPENT: u32 = 101;
 
-// A reply stands above 32 bits for the levels, or the edges of a route.
+// A reply stands above 32 bits for the levels, the edges of a route, or a middle.
 const UNIT: u64 = 1 << 32;
 
 // The record that ten words hold.
@@ -211,6 +213,47 @@ pub extern "C" fn rlc_query(
         QueryReply::Yes => YES,
         QueryReply::No => 0,
         QueryReply::Refused(refusal) => store::refusal_number(refusal),
+    }
+}
+
+// Out by one pattern, home by another.
+#[no_mangle]
+pub extern "C" fn rlc_query_two(
+    words: &[u32],
+    start: u32,
+    destination: u32,
+    first: &[u8],
+    second: &[u8],
+    edges: &[u32],
+    index: &[u64],
+    work: &mut [u64],
+) -> u64
+    ensures { λ r. ⌜
+        Meets (inC (now (words .entry)) twoAnsweredInC (otherRecord * replyUnit)
+        (lent (now (edges .entry)) (now (index .entry)) (now (work .entry)))
+        (queryTwoCall (headerIn (now (words .entry))) start destination (now (first .entry)) (now (second .entry))
+        (lent (now (edges .entry)) (now (index .entry)) (now (work .entry)))))
+        r (lent (now (edges .entry)) (now (index .entry)) (now (work .exit)))
+        ⌝ }
+{
+    if words.len() != RECORD {
+        return OTHER_RECORD as u64 * UNIT;
+    }
+    let header = header_in(words);
+    let reply = store::query_two(
+        header,
+        start,
+        destination,
+        first,
+        second,
+        edges,
+        index,
+        work,
+    );
+    match reply {
+        TwoReply::Yes(middle) => YES as u64 * UNIT + middle as u64,
+        TwoReply::No => 0,
+        TwoReply::Refused(refusal) => store::refusal_number(refusal) as u64 * UNIT,
     }
 }
 

@@ -1,15 +1,17 @@
 -- The loop of check 12: the slots from i on say what all of them say. And what the check says to a caller.
-use mathlib.Core.Path.{_≡_, refl}
+use mathlib.Core.Path.{_≡_, refl, ap, _∙_}
 use mathlib.Core.Bool.{Bool, true, false, cond}
 use mathlib.Core.List.{List}
 use Prim.Native.Nat.{ℕ, _+_, _≤_, _<_}
 use native.Mathlib.Nat.{zero-add}
 use native.Mathlib.Omega.{arith}
-use lib.ListN.{length, getD, drop}
+use lib.ListN.{length, getD, take, drop}
 use Rattle.model.specs.Edges.{standing}
 use Rattle.model.specs.Computed.Edges.{zeros?}
 use Rattle.model.specs.Computed.Query.{entry?, risingEntries?, indexMemory?}
 use Rattle.model.proofs.Checked.{checked-rest, checked-next}
+use Rattle.model.proofs.Zeros.{Ordered, filled-within, filled-front}
+use Rattle.model.proofs.IndexMemory.{index-memory}
 use Rattle.scan.specs.Memory.{extentOf, scanFrom}
 use Rattle.scan.specs.declared.Extent.the-variants.{Entries, Invalid}
 
@@ -24,6 +26,13 @@ module _ (vertices longest prev : ℕ) (s : List ℕ) (i : ℕ) where
       → scanFrom vertices longest prev i (drop i s) ≡ cond b (scanFrom vertices longest (getD s i 0) (i + 1) (drop (i + 1) s)) Invalid
   unfolding scanFrom risingEntries?
   scan-next = checked-next Entries Invalid (entry? vertices longest) prev s i
+
+-- index memory of the graph, in which n entries stand
+pub record Entered (vertices longest : ℕ) (xs : List ℕ) (n : ℕ) : Type 0 where
+  pub memory : indexMemory? vertices longest xs ≡ true
+  pub ordered : Ordered (entry? vertices longest) 0 xs (standing xs)
+  pub within : n ≤ length xs
+  pub front : take n xs ≡ standing xs
 
 module _ (vertices longest : ℕ) (s : List ℕ) where
   pub scan-start : scanFrom vertices longest 0 0 s ≡ extentOf vertices longest s
@@ -47,3 +56,14 @@ module _ (vertices longest : ℕ) (s : List ℕ) where
       go : (b : Bool) → cond b (Entries (length (standing s))) Invalid ≡ Invalid → b ≡ false
       go true e = absurd (let z : _≡_ {A = ℕ} 0 1 = cc in omega arith)
       go false e = refl
+
+  pub entered : {n : ℕ} → extentOf vertices longest s ≡ Entries n → Entered vertices longest s n
+  entered {n} e =
+      let (valid, count) = scans e in
+      let o = index-memory vertices longest s valid in
+      record {
+        memory = valid;
+        ordered = o;
+        within = omega (arith, count, filled-within (standing s) (o .zeros));
+        front = ap (λ (k : ℕ). take k s) count ∙ filled-front (standing s) (o .zeros);
+      }

@@ -3,3 +3,4 @@ pub mod Tables
 pub mod Moving
 pub mod Placing
 pub mod Sorting
+pub mod Apart

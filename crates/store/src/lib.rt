@@ -9,18 +9,20 @@ use model::Refusal;
 use model::RouteReply;
 use model::SearchReply;
 use model::TRIPLE_BYTES;
+use model::TwoReply;
 use patterns::Folded;
 ghost use mathlib.Core.Path.{_≡_};
 ghost use mathlib.Core.List.{[]};
 ghost use Prim.Native.Nat.{_≤_};
 ghost use lib.ListN.{length};
 ghost use Rattle.model.specs.Limits.{mostEdges};
-ghost use Rattle.model.specs.Replies.{answeredOf, answerOf, numberOf, replyOf, routedOf};
+ghost use Rattle.model.specs.Replies.{answeredOf, answerOf, numberOf, replyOf, routedOf, twoAnsweredOf};
 ghost use Rattle.model.specs.Computed.Patterns.{Folds};
 ghost use Rattle.calls.specs.Call.{lent, lentOut, Meets};
 ghost use Rattle.calls.specs.Search.{searchCall};
 ghost use Rattle.calls.specs.Route.{routeCall};
 ghost use Rattle.calls.specs.Query.{queryCall};
+ghost use Rattle.calls.specs.QueryTwo.{queryTwoCall};
 ghost use Rattle.calls.specs.Change.{returning, openCall, insertCall, removeCall};
 ghost use Rattle.calls.specs.Card.{readCall, writeCall};
 ghost use Rattle.store.specs.Store.{numbers, returned, wroteOf};
@@ -198,6 +200,38 @@ pub fn query(
         start,
         destination,
         pattern,
+        edges,
+        index,
+        work,
+    )
+}
+
+// Out by one pattern, home by another (document 02, Five). Edge and work memory are looked at only if one of them repeats itself.
+pub fn query_two(
+    header: Header,
+    start: u32,
+    destination: u32,
+    first: &[u8],
+    second: &[u8],
+    edges: &[u32],
+    index: &[u64],
+    work: &mut [u64],
+) -> TwoReply
+    ensures { λ r. ⌜
+        Meets (queryTwoCall (numbers header) start destination (now (first .entry)) (now (second .entry))
+        (lent (now (edges .entry)) (now (index .entry)) (now (work .entry))))
+        (twoAnsweredOf r) (lent (now (edges .entry)) (now (index .entry)) (now (work .exit)))
+        ⌝ }
+{
+    let totals = header.totals;
+    query_two::query_two(
+        header.vertices,
+        header.longest,
+        totals,
+        start,
+        destination,
+        first,
+        second,
         edges,
         index,
         work,

@@ -1,10 +1,11 @@
-// The unstarred trial runs of document 01 and document 02's of a pattern keyed twice, of routes and of totals, through the public calls: a line for
-// each, with 0 if it is accepted or for a no, 100 for a yes, or the number of the refusal; of a route the number of its legs and a line for each leg;
-// of a record its places, and a line for k and for each total.
+// The unstarred trial runs of document 01 and document 02's of a pattern keyed twice, of routes, of totals and of two patterns, through the public
+// calls: a line for each, with 0 if it is accepted or for a no, 100 for a yes, or the number of the refusal; of a route the number of its legs and a
+// line for each leg; of a record its places, and a line for k and for each total; of two patterns a line for the place between.
 use model::Answer;
 use model::MOST_LABEL;
 use model::QueryReply;
 use model::RouteReply;
+use model::TwoReply;
 use store::Changed;
 use store::Header;
 
@@ -165,6 +166,78 @@ fn say_routes() {
     );
 }
 
+// A question by two patterns: 100 and a line for the place between, or 0 for a no, or the number of the refusal.
+fn say_two(text: &[u8], reply: TwoReply) {
+    match reply {
+        TwoReply::Yes(middle) => {
+            say(text, 100);
+            say(b"  between ", middle)
+        }
+        TwoReply::No => say(text, 0),
+        TwoReply::Refused(refusal) => say(text, store::refusal_number(refusal)),
+    }
+}
+
+// Out by one pattern and home by another, on layout A.
+fn two_in_a(start: u32, destination: u32, first: &[u8], second: &[u8]) -> TwoReply {
+    let mut edges = [0u32; 3];
+    let mut index = [0u64; 5];
+    let mut work = [0u64; 4096];
+    let header = layout_a(&mut edges, &mut index);
+    store::query_two(
+        header,
+        start,
+        destination,
+        first,
+        second,
+        &edges,
+        &index,
+        &mut work,
+    )
+}
+
+// The same from 0 to 3 with the legs 0-1-1, 0-1-2, 1-2-3 and 2-2-3: both 1 and 2 lie between.
+fn two_by_either(first: &[u8]) -> TwoReply {
+    let mut edges = [0u32; 4];
+    let mut index = [0u64; 8];
+    let mut work = [0u64; 4104];
+    let header = Header {
+        vertices: 4,
+        longest: 2,
+        totals: [0; MOST_LABEL],
+    };
+    let one = header.insert(0, 1, 2, &mut edges, &mut index, &mut work);
+    let two = one.header
+        .insert(0, 1, 1, &mut edges, &mut index, &mut work);
+    let three = two.header
+        .insert(2, 2, 3, &mut edges, &mut index, &mut work);
+    let four = three
+        .header
+        .insert(1, 2, 3, &mut edges, &mut index, &mut work);
+    store::query_two(four.header, 0, 3, first, b"\x02", &edges, &index, &mut work)
+}
+
+// The questions of document 02, Five.
+fn say_two_patterns() {
+    say_two(
+        b"A, 0 to 0 by 1, then 2: ",
+        two_in_a(0, 0, b"\x01", b"\x02"),
+    );
+    say_two(
+        b"A, 0 to 2 by 1 2, then 1: ",
+        two_in_a(0, 2, b"\x01\x02", b"\x01"),
+    );
+    say_two(
+        b"A, 0 to 0 by 1, then 1: ",
+        two_in_a(0, 0, b"\x01", b"\x01"),
+    );
+    say_two(b"two ways, 0 to 3 by 1, then 2: ", two_by_either(b"\x01"));
+    say_two(
+        b"two ways, 0 to 3 by 1 1, then 2: ",
+        two_by_either(b"\x01\x01"),
+    );
+}
+
 // The record of layout A: "The record gains eight totals" (document 02, Four).
 fn say_record_a() {
     let mut edges = [0u32; 3];
@@ -207,4 +280,5 @@ fn main() {
         b"A, 0 to 1 by 3, damaged index, total 1 told: ",
         ask_damaged_a(1),
     );
+    say_two_patterns();
 }

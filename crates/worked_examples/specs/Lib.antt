@@ -1,2 +1,3 @@
 pub mod Trials
+pub mod TwoTrials
 pub mod Example

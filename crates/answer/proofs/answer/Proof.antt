@@ -26,13 +26,13 @@ returns-2 : tie.Need-returns-2
 returns-2 c = says-source _ _ _ _ _ (c .before .before .before .before .code .ensures) (sym (c .before .has2 .ensures) ∙ c .if2 .taken)
 
 sub-join : tie.Need-sub-join
-sub-join c = part-order (c .before .before .before .lower-bound .ensures) (c .before .before .lower-bound2 .ensures)
+sub-join c = part-order (c .before .before .before .lower-bound .ensures) (c .before .before .lower-bound2 .ensures) (omega arith)
 
 part-join-start : tie.Need-part-join-start
 part-join-start c = omega (arith, sub-join c)
 
 sub-join-2 : tie.Need-sub-join-2
-sub-join-2 c = part-order (c .before .before .lower-bound3 .ensures) (c .before .lower-bound4 .ensures)
+sub-join-2 c = part-order (c .before .before .lower-bound3 .ensures) (c .before .lower-bound4 .ensures) (omega arith)
 
 part-join-start-2 : tie.Need-part-join-start-2
 part-join-start-2 c = omega (arith, sub-join-2 c)
@@ -42,8 +42,8 @@ join-requires c κs =
     let found = c .before .before in
     let rises = found .before .before .before .before .before .before .before .before .before .before .before .pre .rises in
     record {
-      out-rises = part-rises (found .before .before .before .lower-bound .ensures) (found .before .before .lower-bound2 .ensures) rises (omega arith);
-      into-rises = part-rises (found .before .lower-bound3 .ensures) (found .lower-bound4 .ensures) rises (omega arith);
+      out-rises = part-rises (found .before .before .before .lower-bound .ensures) (found .before .before .lower-bound2 .ensures) rises (omega arith) (omega arith);
+      into-rises = part-rises (found .before .lower-bound3 .ensures) (found .lower-bound4 .ensures) rises (omega arith) (omega arith);
     }
 
 returns-3 : tie.Need-returns-3

@@ -3,7 +3,7 @@ use mathlib.Core.Path.{_≡_, refl, _∙_}
 use Prim.Native.Nat.{_-_}
 use native.Mathlib.Omega.{arith}
 use lib.ListN.{length, length-set}
-use Rattle.level_search.proofs.Stands.{stands-start, LevelsBuilt, built-start, built-yes, built-no, built-on, built-spent}
+use Rattle.level_search.proofs.Stands.{stands-first, LevelsBuilt, built-start, built-yes, built-no, built-on, built-spent}
 use borrow.Author.Needs.{needs}
 use Rattle.level_search.proofs.levels.Statement.{statement}
 use Rattle.level_search.proofs.levels.Tie as tie
@@ -18,13 +18,12 @@ first-slots-requires : tie.Need-first-slots-requires Inv-loop μ-loop
 first-slots-requires c κs = c .before .before .before .pre .0 .vertices-small
 
 slice-write-work : tie.Need-slice-write-work Inv-loop μ-loop
-slice-write-work c = omega (arith, c .before .before .before .before .pre .1 .0)
+slice-write-work c = omega (arith, c .before .before .before .before .pre .1 .long)
 
 loop-holds : tie.Need-loop-holds Inv-loop μ-loop
 loop-holds c =
     let start = c .before .before .before .before in
-    let p = start .pre .0 in
-    (built-start _ _ _ _ _ _ (rw (start .pre .1 .1) (stands-start _ _ _ _ _ (omega (arith, p .start, p .vertices-small)) (p .short) (start .pre .1 .0))), refl)
+    (built-start _ _ _ _ _ _ (stands-first _ _ _ _ (start .pre .0) (start .pre .1)), refl)
 
 next-level-requires : tie.Need-next-level-requires Inv-loop μ-loop
 next-level-requires c κs =

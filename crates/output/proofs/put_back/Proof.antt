@@ -7,7 +7,7 @@ use lib.ListN.{length}
 use Rattle.model.specs.Build.Renumber.{translate}
 use Rattle.model.proofs.Lists.{getD-in}
 use Rattle.memory.proofs.Mix.{Mixed, front-full}
-use Rattle.output.proofs.Putting.{map-start, map-turn}
+use Rattle.memory.proofs.Copying.{map-start, map-turn}
 use Rattle.output.proofs.put_back.Statement.{statement}
 use Rattle.output.proofs.put_back.Tie as tie
 
