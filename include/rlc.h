@@ -104,7 +104,7 @@
  *   rlc_open, rlc_write_card                                    1 KiB
  *   rlc_minimum_repeat_computed, rlc_times_written              1 KiB
  *
- * A query by a label that the layout lacks takes below 1 KiB, and half of the above if it is by two patterns.
+ * By a label that the layout lacks a query takes below 1 KiB, and a query by two patterns 15 KiB.
  *
  *
  * WHAT IT IS BUILT FOR
