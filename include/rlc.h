@@ -93,8 +93,8 @@
  * STACK
  *
  * What each call takes with all that it calls, the return address and the arguments on the stack included, as tools/stack
- * measures it on x86-64; the tests hold these figures to it. memset, which the library takes from your C library, is in it
- * with nothing but its return address.
+ * measures it on x86-64; the tests hold these figures to it. memset and memcpy, which the library takes from your C library,
+ * are in it with nothing but their return address.
  *
  *   rlc_query_two                                              31 KiB
  *   rlc_insert, rlc_remove, rlc_read_card                      18 KiB
@@ -111,15 +111,19 @@
  *
  * `rt staticlib`, which makes librlc_c.a, compiles for x86-64 and Linux (an ELF object, System V calling convention, fit for
  * position-independent programs), and for nothing else today. The library is 28 KB of code and constants, has no data of its
- * own, makes no system call, computes with integers alone (in SSE2 registers too, which an interrupt has to save), and asks
- * one function of the program that it is linked into, memset. The proofs do not depend on the processor. For another one the
- * kit's compiler has to learn it; C and C++ programs need nothing but this header.
+ * own, makes no system call, and computes with integers alone (in SSE2 registers too, which an interrupt has to save). It
+ * asks these functions of the program that it is linked into, and nothing else: memset and memcpy. The proofs do not depend
+ * on the processor. For another one the kit's compiler has to learn it; C and C++ programs need nothing but this header.
  */
 #ifndef RLC_H
 #define RLC_H
 
 #include <stddef.h>
 #include <stdint.h>
+
+#if SIZE_MAX < UINT64_MAX
+#error "librlc_c.a takes lengths of 64 bits, and size_t has fewer here: see WHAT IT IS BUILT FOR"
+#endif
 
 #ifdef __cplusplus
 extern "C" {

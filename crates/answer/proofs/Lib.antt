@@ -1,4 +1,2 @@
 pub mod Joining
 pub mod Answering
-pub mod Marking
-pub mod Linking

@@ -6,7 +6,6 @@ use Prim.Native.Nat.{ℕ, _≤_, _<_}
 use Rattle.model.specs.Limits.{mostVertices, mostLongest}
 use Rattle.model.specs.Lists.{_∈_, Rising}
 use Rattle.model.specs.Patterns.{Keyed}
-use Rattle.model.specs.Tables.{Tabulates}
 use Rattle.model.specs.Computed.Query.{entry?, answers?}
 
 -- rising numbers, a pattern, and ends that are numbers of a field
@@ -24,13 +23,3 @@ pub record Indexed (vertices longest : ℕ) (index : List ℕ) : Type 0 where
 -- the answer to a query by pattern l from s to t, for whatever graph the entries are of. (With more than mostVertices an entry number has several readings.)
 pub record Says (index l : List ℕ) (s t : ℕ) (answer : Bool) : Type 0 where
   pub is : (vertices longest : ℕ) → vertices ≤ mostVertices → s < vertices → t < vertices → Indexed vertices longest index → answer ≡ answers? vertices index l s t
-
--- the answers from s to each vertex, for whatever graph the entries are of
-pub record SaysFrom (index l : List ℕ) (s : ℕ) (table : List Bool) : Type 0 where
-  pub is : (vertices longest : ℕ) → vertices ≤ mostVertices → s < vertices → Indexed vertices longest index
-      → Tabulates vertices table (λ t. answers? vertices index l s t)
-
--- and from each vertex to t
-pub record SaysTo (index l : List ℕ) (t : ℕ) (table : List Bool) : Type 0 where
-  pub is : (vertices longest : ℕ) → vertices ≤ mostVertices → t < vertices → Indexed vertices longest index
-      → Tabulates vertices table (λ s. answers? vertices index l s t)

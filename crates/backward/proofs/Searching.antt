@@ -9,7 +9,8 @@ use Rattle.model.specs.Limits.{mostEdges}
 use Rattle.model.specs.Turned.{turned, Labelled}
 use Rattle.model.proofs.Reversal.{edge-from, back-edge, turned-round, runs-turned}
 use Rattle.sort.specs.Order.{Sorts}
-use Rattle.level_search.specs.Run.{Searchable, TellsFrom}
+use Rattle.frontier.specs.Search.{Searchable}
+use Rattle.reachable.specs.Reached.{TellsFrom}
 use Rattle.backward.specs.Turning.{Turnable, TellsTo}
 
 -- what is handed on is as long as what came

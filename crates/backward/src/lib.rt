@@ -14,8 +14,7 @@ ghost use Rattle.model.specs.Limits.{mostVertices, mostEdges, leastWork};
 ghost use Rattle.model.specs.Edges.{fromOf};
 ghost use Rattle.model.specs.Turned.{turned, Labelled};
 ghost use Rattle.sort.specs.Order.{Sorts};
-ghost use Rattle.level_search.specs.Work.{Short};
-ghost use Rattle.level_search.specs.Run.{Searchable};
+ghost use Rattle.frontier.specs.Search.{Short, Searchable};
 ghost use Rattle.backward.specs.Turning.{Turnable, TellsTo};
 
 // An edge with its ends exchanged.
@@ -88,7 +87,7 @@ pub fn reaching(
 {
     let round = turn_round(edges, work);
     let back = reversed(pattern);
-    level_search::reached(
+    reachable::reached(
         vertices,
         &round[..edges.len()],
         &back[..pattern.len()],

@@ -18,7 +18,7 @@ use Rattle.calls.proofs.Checks.{none, pass, stop, first-is, Passed, done, also,
 use Rattle.calls.proofs.Calls.{refused-meets, accepted-is}
 use Rattle.calls.proofs.Change.{stop-first, pass-first, front-passes}
 use Rattle.calls.proofs.Card.{CardGood, card-good, triples-good}
-use Rattle.card.specs.Card.{Fillable}
+use Rattle.card_reading.specs.Card.{Fillable}
 use Rattle.changes.specs.Changes.{Reads}
 use Rattle.changes.proofs.Trying.{Wanted}
 

@@ -1,6 +1,6 @@
 // The calls that change the layout, over plain numbers: opening, insertion (laying), removal (lifting) and card reading. Checks first,
 // which read only; then edge memory is saved, the wanted edges are written, and `settle` does the rest.
-use card::Checked;
+use card_reading::Checked;
 use model::Answer;
 use model::MOST_EDGES;
 use model::Refusal;
@@ -24,7 +24,7 @@ fn check_read(card: &[u8], edges: &[u32], index: &[u64], work: &[u64]) -> Layout
         (lent (now (edges .entry)) (now (index .entry)) (now (work .entry))) r
         ⌝ }
 {
-    let checked = card::check(card);
+    let checked = card_reading::check(card);
     match checked {
         Checked::Refused(refusal) => Layout::Refused(refusal),
         Checked::Layout(vertices, longest, n) => {
@@ -140,7 +140,7 @@ pub fn read(card: &[u8], edges: &mut [u32], index: &mut [u64], work: &mut [u64])
         },
         Layout::Holds(vertices, longest, n) => {
             settle::save(edges, work);
-            card::fill(card, n, edges);
+            card_reading::fill(card, n, edges);
             let answer = settle::settle(vertices, longest, n, edges, index, work);
             CardRead {
                 vertices: vertices,

@@ -3,4 +3,3 @@ pub mod Scanning
 pub mod BinarySearch
 pub mod Shift
 pub mod Slots
-pub mod Totalling

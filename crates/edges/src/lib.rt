@@ -1,4 +1,4 @@
-// Edge memory: the numbers of edges, check 3, lookup, the slot where a vertex's edges start, how many edges have each label, insertion and removal.
+// Edge memory: the numbers of edges, check 3, lookup, the slot where a vertex's edges start, insertion and removal.
 use model::FROM_UNIT;
 use model::LABEL_UNIT;
 use model::LABELS;
@@ -7,17 +7,14 @@ use model::MOST_VERTICES;
 ghost use mathlib.Core.Path.{_≡_};
 ghost use Prim.Native.Nat.{_/_, _≤_, _<_};
 ghost use lib.ListN.{length, take};
-ghost use Rattle.model.specs.Limits.{mostVertices, mostEdges, fromUnit, labelUnit};
+ghost use Rattle.model.specs.Limits.{mostVertices, fromUnit, labelUnit};
 ghost use Rattle.model.specs.Lists.{Rising, filled};
-ghost use Rattle.model.specs.Edges.{edgeNumber, labelOf, standing, totalsOf};
+ghost use Rattle.model.specs.Edges.{edgeNumber, standing};
 ghost use Rattle.model.specs.Computed.Edges.{edge?, insertEdge, removeEdge};
-ghost use Rattle.edges.specs.Memory.{scanOf, findOf, Insertable, Removable, LabelCounts};
+ghost use Rattle.edges.specs.Memory.{scanOf, findOf, Insertable, Removable};
 ghost use Rattle.edges.specs.Slots.{Under, Skipped, Starts};
 
 const MOST_LABEL: u32 = model::MOST_LABEL as u32;
-
-// How many counts a table of labels has.
-const LABEL_FIELD: usize = LABELS as usize;
 
 // What check 3 finds: how many edges stand, or that this is no edge memory of the graph.
 pub enum Scanned {
@@ -133,57 +130,6 @@ pub fn first_slots(vertices: u32, edges: &[u32]) -> [usize; MOST_VERTICES]
         v += 1;
     }
     slots
-}
-
-fn label_of(x: u32) -> usize
-    ensures { λ r. ⌜ r ≡ labelOf x ⌝ }
-{
-    (x / LABEL_UNIT % LABELS) as usize
-}
-
-// Counts the labels of the standing edges, two edges at a time: those of even slots, and behind them those of odd slots, so that equal labels in a
-// row need not wait for each other.
-fn count_labels(edges: &[u32]) -> [u32; 2 * LABEL_FIELD]
-    requires { ⌜ length (now edges) ≤ mostEdges ⌝ }
-    ensures { λ r. ⌜ LabelCounts (now (edges .entry)) r ⌝ }
-{
-    let mut counts = [0u32; 2 * LABEL_FIELD];
-    let mut i = 0;
-    while i + 1 < edges.len() {
-        if edges[i + 1] == 0 {
-            break;
-        }
-        if edges[i] == 0 {
-            break;
-        }
-        counts[label_of(edges[i])] += 1;
-        counts[LABEL_FIELD + label_of(edges[i + 1])] += 1;
-        i += 2;
-    }
-    if i < edges.len() {
-        if edges[i] != 0 {
-            counts[label_of(edges[i])] += 1;
-        }
-    }
-    counts
-}
-
-// How many of the standing edges have each label 1 to 8 (document 02, Four). Label c is counted at c in the first table, and at 16 + c in the second.
-pub fn totals(edges: &[u32]) -> [u32; model::MOST_LABEL]
-    requires { ⌜ length (now edges) ≤ mostEdges ⌝ }
-    ensures { λ r. ⌜ r ≡ totalsOf (standing (now (edges .entry))) ⌝ }
-{
-    let counts = count_labels(edges);
-    [
-        counts[1] + counts[17],
-        counts[2] + counts[18],
-        counts[3] + counts[19],
-        counts[4] + counts[20],
-        counts[5] + counts[21],
-        counts[6] + counts[22],
-        counts[7] + counts[23],
-        counts[8] + counts[24],
-    ]
 }
 
 pub fn insert(edges: &mut [u32], n: usize, at: usize, edge: u32)

@@ -2,12 +2,11 @@
 use mathlib.Core.Path.{_≡_, refl, ap, _∙_}
 use mathlib.Core.Bool.{Bool}
 use mathlib.Core.List.{List}
-use Prim.Native.Nat.{ℕ, _≤_, _<_}
+use Prim.Native.Nat.{ℕ, _≤_}
 use native.Mathlib.Omega.{arith}
 use lib.ListN.{length, take}
 use Rattle.model.specs.Limits.{enoughLevels}
-use Rattle.model.specs.Edges.{Bounds, standing}
-use Rattle.model.specs.Patterns.{Keyed}
+use Rattle.model.specs.Edges.{standing}
 use Rattle.model.specs.States.{Refused}
 use Rattle.model.specs.Replies.{numberOf, replyOf}
 use Rattle.model.specs.Computed.Edges.{bare}
@@ -20,19 +19,10 @@ use Rattle.calls.specs.Call.{Size, Memory, Meets}
 use Rattle.calls.specs.Search.{searchRefusal, searchCall}
 use Rattle.calls.proofs.Calls.{refused-meets, accepted-is}
 use Rattle.checks.proofs.LayoutChecks.{layout-header, layout-memory}
-use Rattle.level_search.specs.Run.{SearchPasses, Searchable, Searches, Tells}
-
--- over the n edges that stand in edge memory, from one vertex to another by a pattern as keyed
-pub searchable-over : {vertices longest s t n : ℕ} {edges pattern : List ℕ} → Bounds vertices longest → Scans vertices edges n → Keyed longest pattern
-    → s < vertices → t < vertices → Searchable vertices (take n edges) pattern s t
-searchable-over b e k s t = rw (e .front) (record {
-  vertices-small = b .vertices-most;
-  rises = e .rising;
-  valid = e .edges;
-  short = record { least = k .long; most = omega (arith, k .short, b .longest-most) };
-  start = s;
-  destination = t;
-})
+use Rattle.query_checks.specs.SearchChecks.{SearchPasses}
+use Rattle.frontier.specs.Search.{Searchable}
+use Rattle.frontier.proofs.Search.{searchable-over}
+use Rattle.level_search.specs.Run.{Searches, Tells}
 
 module _ {h : Size} {s t : ℕ} {pattern : List ℕ} {m : Memory} {n : ℕ} (p : SearchPasses h s t pattern m n) where
   edge-memory : Scans (h .vertices) (m .edges) n

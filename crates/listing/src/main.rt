@@ -25,11 +25,11 @@ fn list(card: &[u8], out: &mut [u8]) -> usize
     let answer = changed.answer;
     let header = changed.header;
     match answer {
-        Answer::Refused(refusal) => printing::put_refused(out, 0, store::refusal_number(refusal)),
+        Answer::Refused(refusal) => printing::put_refused(out, 0, replies::refusal_number(refusal)),
         Answer::Accepted => {
             let m = memory::standing_u32(&edges);
             let n = memory::standing_u64(&index);
-            printing::put_listing(out, header.vertices, header.longest, m as u32, &index[..n])
+            listing_lines::put_listing(out, header.vertices, header.longest, m as u32, &index[..n])
         }
     }
 }

@@ -12,7 +12,7 @@ use Rattle.rows.specs.Region.{stepRows, parentRows, openRow}
 use Rattle.rows.specs.Rows.{cell, Row, InRows, StepsTo}
 use Rattle.rows.proofs.Rows.{keeps-cell, keeps-long}
 use Rattle.staging.specs.Stage.{Stages}
-use Rattle.staging.specs.Single.{SinglesStageable}
+use Rattle.single_starts.specs.Single.{SinglesStageable}
 use Rattle.staging.proofs.Adding.{stages-as, stages-kept, stages-since}
 use Rattle.steps.specs.Filling.{Starting, LeadsInto, RowsFillable, FillsRows, SourcesClearable, Clears}
 use Rattle.pattern_entries.specs.Pattern.{Led, PatternStageable, PatternStages, LedEntry, StepsStaged}

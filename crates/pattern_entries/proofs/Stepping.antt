@@ -13,7 +13,7 @@ use Rattle.rows.specs.Rows.{cell, On, InRows, StepsTo}
 use Rattle.rows.proofs.Rows.{on-dec, keeps-cell, keeps-steps, keeps-domain}
 use Rattle.closure.specs.Closing.{Closable, Closes}
 use Rattle.staging.specs.Stage.{Stages, Unpicked, Stageable, RestEntry}
-use Rattle.staging.specs.Single.{Single, LastStep, SinglesStageable, StagesSingles}
+use Rattle.single_starts.specs.Single.{Single, LastStep, SinglesStageable, StagesSingles}
 use Rattle.staging.proofs.Adding.{stages-as, stages-over, stages-then, stages-since, stages-within}
 use Rattle.pattern_entries.specs.Pattern.{StepsStaged}
 

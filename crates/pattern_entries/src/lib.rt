@@ -1,6 +1,6 @@
 // The entries of one pattern: its step rows are filled; starts whose walks are one step are staged from them as they are, the others once the
 // rows are closed; then the rows are emptied.
-ghost use Rattle.staging.specs.Single.{SinglesStageable};
+ghost use Rattle.single_starts.specs.Single.{SinglesStageable};
 ghost use Rattle.pattern_entries.specs.Pattern.{PatternStageable, PatternStages, LedEntry, StepsStaged};
 
 // Stages, behind the first cnt, the entries by the step rows. An edge of the list starts at every vertex that steps anywhere. Returns how many
@@ -16,12 +16,12 @@ fn stage_filled(
     requires { ⌜ SinglesStageable (now edges) (now w) starts code room cnt ⌝ }
     ensures { λ r. ⌜ StepsStaged (now (w .entry)) code room cnt (now (w .exit)) r ⌝ }
 {
-    let n = staging::stage_singles(edges, w, starts, code, room, cnt);
+    let n = single_starts::stage_singles(edges, w, starts, code, room, cnt);
     if room < n {
         return n;
     }
     closure::close(w, starts);
-    staging::stage(w, code, room, n)
+    closed_starts::stage(w, code, room, n)
 }
 
 // Stages, behind the first cnt, the entries of the pattern that is a label and the parent's word. The edges are those of the label that end

@@ -32,8 +32,9 @@ use Rattle.scan.specs.declared.Extent.the-variants.{Entries}
 use Rattle.scan.proofs.Scanning.{Entered, entered}
 use Rattle.answer.specs.Saying.{Answerable, Says}
 use Rattle.edges.proofs.Memory.{Scans}
-use Rattle.level_search.specs.Run.{Searchable, Tells}
-use Rattle.level_search.proofs.Call.{searchable-over}
+use Rattle.frontier.specs.Search.{Searchable}
+use Rattle.level_search.specs.Run.{Tells}
+use Rattle.frontier.proofs.Search.{searchable-over}
 use Rattle.query.specs.Call.{askedCall, laterChecks, searchedCall}
 
 module _ (h : Size) (start destination : ℕ) (pattern : List ℕ) (m : Memory) where

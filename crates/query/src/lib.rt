@@ -1,4 +1,4 @@
-// The query's call: its checks and the rule of totals, then the question put to the entries that stand, or for a pattern that repeats itself a
+// The query's call: past its checks and the rule of totals, the question put to the entries that stand, or for a pattern that repeats itself a
 // search.
 use edges::Scanned;
 use model::Answer;
@@ -10,44 +10,10 @@ use scan::Extent;
 ghost use mathlib.Core.Path.{_≡_};
 ghost use mathlib.Core.List.{List};
 ghost use Prim.Native.Nat.{ℕ};
-ghost use Rattle.model.specs.Limits.{mostLongest};
-ghost use Rattle.model.specs.Patterns.{Keyed};
-ghost use Rattle.model.specs.Replies.{answerOf, answeredOf};
+ghost use Rattle.model.specs.Replies.{answeredOf};
 ghost use Rattle.calls.specs.Call.{lent, Meets};
-ghost use Rattle.calls.specs.Query.{saying, askRefusal, lacking?, queryCall};
+ghost use Rattle.calls.specs.Query.{saying, askRefusal, queryCall};
 ghost use Rattle.query.specs.Call.{askedCall, searchedCall};
-
-// The checks that come before all memory, in their order: 1, 2, 10 and 11.
-pub fn check(vertices: u32, longest: u32, start: u32, destination: u32, pattern: &[u8]) -> Answer
-    ensures { λ r. ⌜ answerOf r ≡ askRefusal (record { vertices = vertices; longest = longest }) start destination (now (pattern .entry)) ⌝ }
-{
-    let header = checks::check_header(vertices, longest);
-    if let Answer::Refused(refusal) = header {
-        return Answer::Refused(refusal);
-    }
-    if checks::are_vertices(vertices, start, destination) {
-        if patterns::is_keyed(longest, pattern) {
-            return Answer::Accepted;
-        }
-        return Answer::Refused(Refusal::QueryPattern);
-    }
-    Answer::Refused(Refusal::QueryEnd)
-}
-
-// Whether a label of the pattern has total 0 in the record (document 02, Four).
-pub fn is_lacking(totals: [u32; MOST_LABEL], pattern: &[u8]) -> bool
-    requires { ⌜ Keyed mostLongest (now pattern) ⌝ }
-    ensures { λ r. ⌜ r ≡ lacking? totals (now (pattern .entry)) ⌝ }
-{
-    let mut i = 0;
-    while i < pattern.len() {
-        if totals[(pattern[i] - 1) as usize] == 0 {
-            return true;
-        }
-        i += 1;
-    }
-    false
-}
 
 // Yes or no.
 fn say(yes: bool) -> QueryReply
@@ -128,11 +94,11 @@ pub fn query(
         (answeredOf r) (lent (now (edges .entry)) (now (index .entry)) (now (work .exit)))
         ⌝ }
 {
-    let checked = check(vertices, longest, start, destination, pattern);
+    let checked = query_checks::check(vertices, longest, start, destination, pattern);
     if let Answer::Refused(refusal) = checked {
         return QueryReply::Refused(refusal);
     }
-    if is_lacking(totals, pattern) {
+    if query_checks::is_lacking(totals, pattern) {
         return QueryReply::No;
     }
     let folded = patterns::minimum_repeat(pattern);

@@ -1,28 +1,24 @@
 -- What the single questions tell of the edges and entries that stand; and from tables of that, and the checks' outcome, what the call comes to.
 use mathlib.Core.Path.{_≡_, refl, sym, ap, ap₂, _∙_}
-use mathlib.Core.Bool.{Bool, true, false, _&&_, _||_}
+use mathlib.Core.Bool.{Bool, true, false, _&&_}
 use mathlib.Core.List.{List, []}
 use Prim.Native.Nat.{ℕ, _≤_, _<_}
 use native.Mathlib.Omega.{arith}
 use borrow.Author.Tests.{le-leb}
-use lib.Dec.{eqb}
 use lib.ListN.{length, getD, take}
 use lib.Seq.{length-take-le}
 use Rattle.model.specs.Limits.{mostVertices, mostEdges, leastWork}
 use Rattle.model.specs.Lists.{keep, upTo}
 use Rattle.model.specs.Edges.{Bounds, standing}
 use Rattle.model.specs.Patterns.{Keyed}
-use Rattle.model.specs.Tables.{Tabulates}
 use Rattle.model.specs.Middles.{TwoAnswered, Refused}
 use Rattle.model.specs.Replies.{numberOf}
-use Rattle.model.specs.Computed.Edges.{bare, edgeMemory?}
-use Rattle.model.specs.Computed.Levels.{runs?}
-use Rattle.model.specs.Computed.Patterns.{timesWritten, once?}
+use Rattle.model.specs.Computed.Edges.{edgeMemory?}
+use Rattle.model.specs.Computed.Patterns.{once?}
 use Rattle.model.specs.Computed.Query.{indexMemory?, answers?}
 use Rattle.model.specs.declared.Refusal.{Refusal}
 use Rattle.model.proofs.Tests.{both-ways}
 use Rattle.model.proofs.Lists.{keep-as, below}
-use Rattle.model.proofs.Tables.{tabulates-as}
 use Rattle.model.proofs.Search.{runs-as}
 use Rattle.model.proofs.IndexMemory.{index-memory, answers-alone}
 use Rattle.calls.specs.Checks.{firstRefusal}
@@ -35,79 +31,13 @@ use Rattle.calls.proofs.Query.{within, ask-passes}
 use Rattle.calls.proofs.QueryTwo.{TwoAllowed, two-leaves, two-full, two-accepted, once-says, repeating-says}
 use Rattle.edges.proofs.Memory.{Scans}
 use Rattle.scan.proofs.Scanning.{Entered}
-use Rattle.answer.specs.Saying.{Answerable, Indexed, SaysFrom, SaysTo}
-use Rattle.level_search.specs.Run.{TellsFrom}
-use Rattle.level_search.proofs.Call.{searchable-over}
-use Rattle.backward.specs.Turning.{TellsTo}
-use Rattle.query_two.specs.Call.{FullTwo, told?, Puttable, Meeting}
-
--- ---- two tests of both patterns taken apart
-
-neither : (a b : Bool) → a || b ≡ false → (a ≡ false) × (b ≡ false)
-neither true b e = absurd (let z : _≡_ {A = ℕ} 0 1 = cc in omega arith)
-neither false b e = (refl, e)
-
-both : (a b : Bool) → a && b ≡ true → (a ≡ true) × (b ≡ true)
-both true b e = (refl, e)
-both false b e = absurd (let z : _≡_ {A = ℕ} 0 1 = cc in omega arith)
-
-module _ (first second : List ℕ) where
-  pub neither-lacks : (totals : List ℕ) → eitherLacks? totals first second ≡ false → (lacking? totals first ≡ false) × (lacking? totals second ≡ false)
-  unfolding eitherLacks?
-  neither-lacks totals e = neither (lacking? totals first) (lacking? totals second) e
-
-  pub both-once : bothOnce? first second ≡ true → (once? first ≡ true) × (once? second ≡ true)
-  unfolding bothOnce?
-  both-once e = both (once? first) (once? second) e
-
-  -- one after the other
-  pub once-second : {n : ℕ} → once? first ≡ true → n ≡ timesWritten second → eqb n 1 ≡ bothOnce? first second
-  unfolding bothOnce? once?
-  once-second e c = rw (e, c) refl
-
-  pub first-repeats : once? first ≡ false → bothOnce? first second ≡ false
-  unfolding bothOnce?
-  first-repeats e = rw e refl
-
-  pub lacks-first : (totals : List ℕ) → lacking? totals first ≡ true → eitherLacks? totals first second ≡ true
-  unfolding eitherLacks?
-  lacks-first totals e = rw e refl
-
-  pub lacks-second : (totals : List ℕ) → lacking? totals first ≡ false → eitherLacks? totals first second ≡ lacking? totals second
-  unfolding eitherLacks?
-  lacks-second totals e = rw e refl
-
--- ---- what a single question tells
-
-module _ (vertices : ℕ) (edges index l : List ℕ) (s t : ℕ) where
-  pub told-once : once? l ≡ true → told? vertices edges index l s t ≡ answers? vertices index l s t
-  unfolding told?
-  told-once e = rw e refl
-
-  pub told-repeating : once? l ≡ false → told? vertices edges index l s t ≡ runs? (bare vertices edges) l s t
-  unfolding told?
-  told-repeating e = rw e refl
-
--- for every vertex
-module _ {vertices : ℕ} {edges index l : List ℕ} {v : ℕ} {table : List Bool} (p : Puttable vertices edges index l v) where
-  pub out-once : once? l ≡ true → SaysFrom index l v table → Tabulates vertices table (λ u. told? vertices edges index l v u)
-  out-once e says =
-      tabulates-as (says .is vertices (p .longest) (p .searchable .vertices-small) (p .searchable .start) (p .indexed)) (λ u _. sym (told-once _ edges _ l v u e))
-
-  pub out-repeating : once? l ≡ false → TellsFrom vertices edges l v table → Tabulates vertices table (λ u. told? vertices edges index l v u)
-  out-repeating e tells = tabulates-as (tells .is) (λ u _. sym (told-repeating _ _ index l v u e))
-
-  pub home-once : once? l ≡ true → SaysTo index l v table → Tabulates vertices table (λ u. told? vertices edges index l u v)
-  home-once e says =
-      tabulates-as (says .is vertices (p .longest) (p .searchable .vertices-small) (p .searchable .start) (p .indexed)) (λ u _. sym (told-once _ edges _ l u v e))
-
-  pub home-repeating : once? l ≡ false → TellsTo vertices edges l v table → Tabulates vertices table (λ u. told? vertices edges index l u v)
-  home-repeating e tells = tabulates-as (tells .is) (λ u _. sym (told-repeating _ _ index l u v e))
-
--- two tables, and the lowest of both
-pub tables-meet : {vertices : ℕ} {out home : List Bool} {f g : ℕ → Bool} → Tabulates vertices out f → Tabulates vertices home g
-    → lowest (keep (λ v. getD out v false && getD home v false) (upTo vertices)) ≡ lowest (keep (λ v. f v && g v) (upTo vertices))
-tables-meet {vertices} a b = ap lowest (keep-as (upTo vertices) (λ v k. ap₂ _&&_ (a .each v (below k)) (b .each v (below k))))
+use Rattle.answer.specs.Saying.{Answerable, Indexed}
+use Rattle.answer_tables.specs.Saying.{SaysFrom, SaysTo}
+use Rattle.frontier.proofs.Search.{searchable-over}
+use Rattle.query_checks.proofs.Both.{neither-lacks, both-once}
+use Rattle.query_two.specs.Call.{FullTwo}
+use Rattle.middles.specs.Meeting.{told?, Puttable, Meeting}
+use Rattle.middles.proofs.Telling.{told-once, told-repeating}
 
 module _ (h : Header) (m : Memory) (bounds : Bounds (h .size .vertices) (h .size .longest))
     (valid : indexMemory? (h .size .vertices) (h .size .longest) (m .index) ≡ true) (l : List ℕ) (keyed : Keyed (h .size .longest) l)

@@ -2,15 +2,12 @@
 use mathlib.Core.Path.{_≡_}
 use mathlib.Core.Bool.{Bool, cond}
 use mathlib.Core.List.{List, _∷_}
-use Prim.Native.Nat.{ℕ, zero, suc, _+_, _*_, _^_}
+use Prim.Native.Nat.{ℕ, zero, suc, _*_}
 use lib.Dec.{eqb}
 use lib.ListN.{length, getD, drop}
-use Rattle.model.specs.Query.{Answered, Yes as AnsweredYes, No as AnsweredNo, Refused as AnsweredRefused}
-use Rattle.model.specs.States.{Reply, Yes, No, Spent, Refused}
-use Rattle.model.specs.Routes.{Routed, Yes as RoutedYes, No as RoutedNo, Refused as RoutedRefused}
-use Rattle.model.specs.Middles.{TwoAnswered, Yes as TwoYes, No as TwoNo, Refused as TwoRefused}
 use Rattle.model.specs.Replies.{answerOf}
 use Rattle.calls.specs.Call.{Header, Memory, Outcome, Meets, Returned, Wrote, Length, Refused as NotWritten}
+use Rattle.replies.specs.InC.{recordNumbers, replyUnit}
 use Rattle.store.specs.Store.{numbers}
 use Rattle.store.specs.declared.Changed.{Changed}
 
@@ -22,9 +19,6 @@ abbrev pub wordsOf : Header → List ℕ
 wordsOf h = h .size .vertices ∷ h .size .longest ∷ h .totals
 
 -- a record has ten numbers; with any other length "the call returns 255 and touches nothing"
-abbrev pub recordNumbers : ℕ
-recordNumbers = 10
-
 abbrev pub record? : List ℕ → Bool
 record? words = eqb (length words) recordNumbers
 
@@ -49,35 +43,6 @@ pub record ChangesInC (words : List ℕ) (m : Memory) (c : Outcome Returned) (r 
 pub record HandsBack (c : Changed) (r : ℕ) (words : List ℕ) : Type 0 where
   pub number : r ≡ answerOf (c .answer)
   pub words-after : words ≡ wordsOf (numbers (c .header))
-
--- "0 no, 100 yes, else the number"
-abbrev pub answeredInC : Answered → ℕ
-answeredInC AnsweredYes = 100
-answeredInC AnsweredNo = 0
-answeredInC (AnsweredRefused n) = n
-
--- what stands above the levels, the edges of a route, or a middle, in a reply
-abbrev pub replyUnit : ℕ
-replyUnit = 2 ^ 32
-
--- "reply × 2^32 + levels: 0 no, 100 yes, 101 spent, else the number with levels 0"
-abbrev pub repliedInC : Reply → ℕ
-repliedInC (Yes c) = 100 * replyUnit + c
-repliedInC (No c) = c
-repliedInC (Spent c) = 101 * replyUnit + c
-repliedInC (Refused n) = n * replyUnit
-
--- "reply × 2^32 + number of edges: 100 with the walk's edges, 0 no, else the number with 0"
-abbrev pub routedInC : Routed → ℕ
-routedInC (RoutedYes n) = 100 * replyUnit + n
-routedInC RoutedNo = 0
-routedInC (RoutedRefused n) = n * replyUnit
-
--- "reply × 2^32 + m: 100 with the lowest m, 0 no, else the number with 0"
-abbrev pub twoAnsweredInC : TwoAnswered → ℕ
-twoAnsweredInC (TwoYes m) = 100 * replyUnit + m
-twoAnsweredInC TwoNo = 0
-twoAnsweredInC (TwoRefused n) = n * replyUnit
 
 -- "number × 2^32 refused; the length accepted"
 abbrev pub wroteInC : Wrote → ℕ

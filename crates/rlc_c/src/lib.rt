@@ -2,17 +2,13 @@
 // number. A record of another length gives 255, and nothing is touched.
 use model::Answer;
 use model::MOST_LABEL;
-use model::QueryReply;
-use model::RouteReply;
-use model::SearchReply;
-use model::TwoReply;
 use store::Changed;
 use store::Header;
 use store::Written;
 ghost use mathlib.Core.Path.{_≡_};
 ghost use Prim.Native.Nat.{_*_};
-ghost use mathlib.Core.List.{[], _++_};
-ghost use lib.ListN.{length, take};
+ghost use mathlib.Core.List.{[]};
+ghost use lib.ListN.{length};
 ghost use Rattle.model.specs.Computed.Patterns.{foldedLength, timesWritten, Folds};
 ghost use Rattle.calls.specs.Call.{lent, lentOut, Meets};
 ghost use Rattle.calls.specs.Search.{searchCall};
@@ -22,16 +18,13 @@ ghost use Rattle.calls.specs.QueryTwo.{queryTwoCall};
 ghost use Rattle.calls.specs.Change.{openCall, insertCall, removeCall};
 ghost use Rattle.calls.specs.Card.{readCall, writeCall};
 ghost use Rattle.store.specs.Store.{numbers};
-ghost use Rattle.rlc_c.specs.Interface.{headerIn, recordNumbers, otherRecord, replyUnit, inC, HandsBack, ChangesInC, answeredInC, twoAnsweredInC, repliedInC, routedInC, wroteInC};
+ghost use Rattle.replies.specs.InC.{recordNumbers, replyUnit, answeredInC, twoAnsweredInC, repliedInC, routedInC};
+ghost use Rattle.rlc_c.specs.Interface.{headerIn, otherRecord, inC, HandsBack, ChangesInC, wroteInC};
 
 // How many numbers a record has: vertices, longest pattern, and a total for each label.
 const RECORD: usize = 2 + MOST_LABEL;
 
 const OTHER_RECORD: u32 = 255;
-
-const YES: u32 = 100;
-
-const SPENT: u32 = 101;
 
 // A reply stands above 32 bits for the levels, the edges of a route, or a middle.
 const UNIT: u64 = 1 << 32;
@@ -57,18 +50,6 @@ fn header_in(words: &[u32]) -> Header
     }
 }
 
-// Writes the totals behind the first two numbers of a record.
-fn write_totals(words: &mut [u32], totals: [u32; MOST_LABEL])
-    requires { ⌜ length (now words) ≡ recordNumbers ⌝ }
-    ensures { λ _. ⌜ now (words .exit) ≡ take 2 (now (words .entry)) ++ totals ⌝ }
-{
-    let mut i = 0;
-    while i < MOST_LABEL {
-        words[2 + i] = totals[i];
-        i += 1;
-    }
-}
-
 // Writes the record that a call hands back, and tells its answer as a number.
 fn hand_back(words: &mut [u32], changed: Changed) -> u32
     requires { ⌜ length (now words) ≡ recordNumbers ⌝ }
@@ -76,14 +57,9 @@ fn hand_back(words: &mut [u32], changed: Changed) -> u32
 {
     let header = changed.header;
     let totals = header.totals;
-    words[0] = header.vertices;
-    words[1] = header.longest;
-    write_totals(words, totals);
+    replies::write_record(words, header.vertices, header.longest, totals);
     let answer = changed.answer;
-    match answer {
-        Answer::Accepted => 0,
-        Answer::Refused(refusal) => store::refusal_number(refusal),
-    }
+    replies::answer_number(answer)
 }
 
 // Opening.
@@ -180,7 +156,7 @@ pub extern "C" fn rlc_read_card(
     let changed = store::read_card(card, edges, index, work);
     let answer = changed.answer;
     if let Answer::Refused(refusal) = answer {
-        return store::refusal_number(refusal);
+        return replies::refusal_number(refusal);
     }
     hand_back(words, changed)
 }
@@ -209,11 +185,7 @@ pub extern "C" fn rlc_query(
     }
     let header = header_in(words);
     let reply = store::query(header, start, destination, pattern, edges, index, work);
-    match reply {
-        QueryReply::Yes => YES,
-        QueryReply::No => 0,
-        QueryReply::Refused(refusal) => store::refusal_number(refusal),
-    }
+    replies::query_number(reply)
 }
 
 // Out by one pattern, home by another.
@@ -250,11 +222,7 @@ pub extern "C" fn rlc_query_two(
         index,
         work,
     );
-    match reply {
-        TwoReply::Yes(middle) => YES as u64 * UNIT + middle as u64,
-        TwoReply::No => 0,
-        TwoReply::Refused(refusal) => store::refusal_number(refusal) as u64 * UNIT,
-    }
+    replies::two_number(reply)
 }
 
 // The level search (plain check).
@@ -288,12 +256,7 @@ pub extern "C" fn rlc_search(
         edges,
         work,
     );
-    match reply {
-        SearchReply::Yes(levels) => YES as u64 * UNIT + levels as u64,
-        SearchReply::No(levels) => levels as u64,
-        SearchReply::Spent(levels) => SPENT as u64 * UNIT + levels as u64,
-        SearchReply::Refused(refusal) => store::refusal_number(refusal) as u64 * UNIT,
-    }
+    replies::search_number(reply)
 }
 
 // The route.
@@ -319,11 +282,7 @@ pub extern "C" fn rlc_route(
     }
     let header = header_in(words);
     let reply = store::route(header, start, destination, pattern, edges, walk, work);
-    match reply {
-        RouteReply::Yes(count) => YES as u64 * UNIT + count as u64,
-        RouteReply::No => 0,
-        RouteReply::Refused(refusal) => store::refusal_number(refusal) as u64 * UNIT,
-    }
+    replies::route_number(reply)
 }
 
 // Card writing.
@@ -343,7 +302,7 @@ pub extern "C" fn rlc_write_card(words: &[u32], edges: &[u32], output: &mut [u8]
     let written = store::write_card(header, edges, output);
     match written {
         Written::Length(length) => length as u64,
-        Written::Refused(refusal) => store::refusal_number(refusal) as u64 * UNIT,
+        Written::Refused(refusal) => replies::refused_number(refusal),
     }
 }
 

@@ -17,7 +17,7 @@ use Rattle.calls.specs.Route.{routeCall}
 use Rattle.calls.proofs.Calls.{refused-meets, accepted-is}
 use Rattle.calls.proofs.Route.{lighting-leaves}
 use Rattle.checks.proofs.LayoutChecks.{layout-memory}
-use Rattle.level_search.specs.Run.{SearchPasses}
+use Rattle.query_checks.specs.SearchChecks.{SearchPasses}
 use Rattle.route.specs.Run.{Lights, Shows}
 
 module _ (h : Size) (s t : ℕ) (pattern : List ℕ) (m : Memory) where

@@ -13,8 +13,9 @@ use Rattle.model.specs.declared.RouteReply.{RouteReply}
 use Rattle.model.specs.declared.RouteReply.the-variants.{Yes, No, Refused}
 use Rattle.model.proofs.RouteSearch.{route-is, route-none}
 use Rattle.calls.proofs.Route.{lighting-none, lighting-yes, lighting-short}
-use Rattle.level_search.specs.Run.{Searchable}
-use Rattle.route.specs.Run.{Chain, Traced, Linked, CountsLinks, WritesWalk, Lights, LightsAt}
+use Rattle.frontier.specs.Search.{Searchable}
+use Rattle.route_search.specs.Traced.{Chain, Traced}
+use Rattle.route.specs.Run.{Linked, CountsLinks, WritesWalk, Lights, LightsAt}
 use Rattle.route.proofs.Tracing.{chain-some}
 
 lights-none : (walk : List ℕ) → Lights [] walk walk No

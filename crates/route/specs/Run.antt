@@ -1,33 +1,18 @@
--- The walk that the queue gives from a place back to the start, and the route that is lit.
+-- The walk back from a place, counted and written, and the route that is lit.
 use mathlib.Core.Path.{_≡_}
-use mathlib.Core.List.{List, [], _∷_, _++_, reverse}
-use Prim.Native.Nat.{ℕ, _≤_, _<_}
+use mathlib.Core.List.{List, [], _++_, reverse}
+use Prim.Native.Nat.{ℕ, _≤_}
 use lib.ListN.{length, drop}
 use Rattle.model.specs.Limits.{leastWork}
 use Rattle.model.specs.Lists.{zeroed}
 use Rattle.model.specs.Edges.{Graph}
-use Rattle.model.specs.Walks.{Runs}
-use Rattle.model.specs.Routes.{Route}
 use Rattle.model.specs.Replies.{routedOf}
 use Rattle.model.specs.Computed.Levels.{mostStates}
 use Rattle.model.specs.Computed.Routes.{routeOf}
 use Rattle.model.specs.declared.RouteReply.{RouteReply}
 use Rattle.calls.specs.Call.{Memory}
 use Rattle.calls.specs.Route.{lighting}
-use Rattle.route.specs.Work.{stateUnit, queuedAt, queuedNumber}
-
--- the edges from place k back to the start, the last one first
-pub data Chain (w : List ℕ) : ℕ → List ℕ → Type 0 where
-  done : Chain w 0 []
-  link : {k before x edge : ℕ} {p : List ℕ} → before < k → x < mostStates → edge < stateUnit → queuedAt w k ≡ queuedNumber before x edge → Chain w before p
-      → Chain w k (edge ∷ p)
-
--- the place of the route's last state, or 0 where there is no route
-pub record Traced (g : Graph) (l : List ℕ) (s t : ℕ) (w : List ℕ) (place : ℕ) : Type 0 where
-  pub long : leastWork ≤ length w
-  pub small : place ≤ mostStates
-  pub none : place ≡ 0 → ¬ Runs g l s t
-  pub some : ¬ (place ≡ 0) → (p : List ℕ) × Chain w place p × Route g l s t (reverse p)
+use Rattle.route_search.specs.Traced.{Chain}
 
 -- there is a walk back from the place, if it is not 0
 pub record Linked (w : List ℕ) (place : ℕ) : Type 0 where

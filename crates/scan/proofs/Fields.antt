@@ -13,8 +13,7 @@ use Rattle.model.specs.Limits.{hubUnit, ownerUnit, sideUnit}
 use Rattle.model.specs.Computed.Query.{sideOf, ownerOf, hubOf, codeOf, code?, entry?}
 use Rattle.model.proofs.Tests.{test-false, test-yields}
 use Rattle.model.proofs.IndexMemory.{Valid, test-entry}
-use Rattle.scan.specs.Codes.{slots, slotOf}
-use Rattle.scan.specs.Scan.{Seen, FieldEnd, Within, HubsBelow}
+use Rattle.scan.specs.Scan.{slots, slotOf, Seen, FieldEnd, Within, HubsBelow}
 
 -- a number of the empty table
 zeros : (k : ℕ) → getD {A = ℕ} (replicate slots 0) k 0 ≡ 0

@@ -8,8 +8,7 @@ use lib.ListN.{length, getD, drop, List·getD-eq-default}
 use Rattle.model.specs.Limits.{ownerUnit}
 use Rattle.model.specs.Computed.Query.{codeOf, entry?}
 use Rattle.scan.specs.Memory.{scanFrom}
-use Rattle.scan.specs.Codes.{slotOf}
-use Rattle.scan.specs.Scan.{Seen, Within, HubsBelow, Skims}
+use Rattle.scan.specs.Scan.{slotOf, Seen, Within, HubsBelow, Skims}
 use Rattle.scan.specs.declared.Exit.the-variants.{Rest, Untested, Stray}
 use Rattle.scan.proofs.Fields.{code-entry}
 use Rattle.scan.proofs.Scanning.{scan-rest, scan-next}

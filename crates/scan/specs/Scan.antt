@@ -2,17 +2,26 @@
 use mathlib.Core.Path.{_≡_}
 use mathlib.Core.Bool.{Bool, true, false, cond}
 use mathlib.Core.List.{List}
-use Prim.Native.Nat.{ℕ, _+_, _%_, _≤_, _<_}
+use Prim.Native.Nat.{ℕ, _+_, _*_, _/_, _%_, _≤_, _<_}
 use lib.ListN.{length, getD, drop}
 use Rattle.model.specs.Limits.{mostVertices, ownerUnit}
 use Rattle.model.specs.Computed.Edges.{zeros?}
 use Rattle.model.specs.Computed.Query.{sideOf, ownerOf, hubOf, code?, entry?}
 use Rattle.scan.specs.Memory.{scanFrom}
-use Rattle.scan.specs.Codes.{slots, slotOf}
 use Rattle.scan.specs.declared.Extent.{Extent}
 use Rattle.scan.specs.declared.Extent.the-variants.{Entries, Invalid}
 use Rattle.scan.specs.declared.Exit.{Exit}
 use Rattle.scan.specs.declared.Exit.the-variants.{Rest, Untested, Stray}
+
+-- how many slots there are for codes that have passed, the multiplier of their hash, and the slot of a code
+abbrev pub slots : ℕ
+slots = 8192
+
+abbrev pub multiplier : ℕ
+multiplier = 1040391
+
+abbrev pub slotOf : ℕ → ℕ
+slotOf c = c * multiplier / slots % slots
 
 -- what is found in its slot is a code
 pub record Seen (longest : ℕ) (seen : List ℕ) : Type 0 where

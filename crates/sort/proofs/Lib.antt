@@ -1,6 +1,2 @@
-pub mod Classes
-pub mod Tables
-pub mod Moving
-pub mod Placing
 pub mod Sorting
 pub mod Apart

@@ -14,7 +14,7 @@ use Rattle.calls.specs.Card.{cardOf, writeRefusal, writeCall}
 use Rattle.calls.proofs.Calls.{refused-meets, accepted-is}
 use Rattle.calls.proofs.Card.{Cardable, card-says}
 use Rattle.checks.proofs.LayoutChecks.{layout-header, layout-memory}
-use Rattle.card.specs.Card.{Writable, WritePasses}
+use Rattle.card_writing.specs.Card.{Writable, WritePasses}
 
 -- a refusal leaves the output alone
 pub write-stops : (h : Size) (m : Memory) (r : Refusal) → writeRefusal h m ≡ numberOf r → Meets (writeCall h m) (Refused (numberOf r)) m

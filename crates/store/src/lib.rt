@@ -16,7 +16,7 @@ ghost use mathlib.Core.List.{[]};
 ghost use Prim.Native.Nat.{_≤_};
 ghost use lib.ListN.{length};
 ghost use Rattle.model.specs.Limits.{mostEdges};
-ghost use Rattle.model.specs.Replies.{answeredOf, answerOf, numberOf, replyOf, routedOf, twoAnsweredOf};
+ghost use Rattle.model.specs.Replies.{answeredOf, answerOf, replyOf, routedOf, twoAnsweredOf};
 ghost use Rattle.model.specs.Computed.Patterns.{Folds};
 ghost use Rattle.calls.specs.Call.{lent, lentOut, Meets};
 ghost use Rattle.calls.specs.Search.{searchCall};
@@ -62,7 +62,7 @@ fn hand_back(given: Header, vertices: u32, longest: u32, edges: &[u32], answer: 
         header: Header {
             vertices: vertices,
             longest: longest,
-            totals: edges::totals(edges),
+            totals: totals::totals(edges),
         },
         answer: Answer::Accepted,
     }
@@ -165,11 +165,11 @@ pub fn write_card(header: Header, edges: &[u32], output: &mut [u8]) -> Written
 {
     let vertices = header.vertices;
     let longest = header.longest;
-    let standing = card::check_write(vertices, longest, edges, output);
+    let standing = card_writing::check_write(vertices, longest, edges, output);
     match standing {
         Standing::Refused(refusal) => Written::Refused(refusal),
         Standing::Edges(n) => {
-            card::write(vertices, longest, &edges[..n], output);
+            card_writing::write(vertices, longest, &edges[..n], output);
             Written::Length(HEAD_BYTES + TRIPLE_BYTES * n)
         }
     }
@@ -306,30 +306,4 @@ pub fn minimum_repeat_computed(pattern: &[u8]) -> Folded
     ensures { λ r. ⌜ Folds (now (pattern .entry)) (r .length) (r .times) ⌝ }
 {
     patterns::minimum_repeat(pattern)
-}
-
-// The documents' number of a refusal.
-pub fn refusal_number(refusal: Refusal) -> u32
-    ensures { λ r. ⌜ r ≡ numberOf refusal ⌝ }
-{
-    match refusal {
-        Refusal::Vertices => 1,
-        Refusal::Longest => 2,
-        Refusal::EdgeMemory => 3,
-        Refusal::WorkMemory => 4,
-        Refusal::EdgeEnd => 5,
-        Refusal::EdgeLabel => 6,
-        Refusal::EdgePresent => 7,
-        Refusal::EdgeAbsent => 8,
-        Refusal::EdgeSlots => 9,
-        Refusal::QueryEnd => 10,
-        Refusal::QueryPattern => 11,
-        Refusal::IndexMemory => 12,
-        Refusal::IndexSlots => 13,
-        Refusal::CardMark => 14,
-        Refusal::CardVersion => 15,
-        Refusal::CardEdges => 16,
-        Refusal::CardOutput => 17,
-        Refusal::WalkMemory => 18,
-    }
 }

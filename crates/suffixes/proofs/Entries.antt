@@ -27,8 +27,8 @@ use Rattle.model.proofs.Codes.{code-inj}
 use Rattle.rows.specs.Rows.{NextVertex}
 use Rattle.rows.proofs.Rows.{next-none}
 use Rattle.model.proofs.Plus.{plus-from}
-use Rattle.steps.specs.Steps.{Trail}
-use Rattle.steps.proofs.Trails.{trail-cut, trail-to, trail-spells, spells-trail}
+use Rattle.parent_rows.specs.Steps.{Trail}
+use Rattle.parent_rows.proofs.Trails.{trail-cut, trail-to, trail-spells, spells-trail}
 use Rattle.suffixes.specs.Suffixes.{Spans, PatternEntry, ChildRow}
 
 -- ---- an entry has one pattern

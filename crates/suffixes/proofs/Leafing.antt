@@ -24,9 +24,9 @@ use Rattle.rows.proofs.Rows.{keeps-cell, keeps-row, keeps-empty}
 use Rattle.model.proofs.Plus.{plus-as}
 use Rattle.staging.specs.Stage.{Stages}
 use Rattle.staging.proofs.Adding.{stages-none, stages-as, stages-since, stages-within}
-use Rattle.steps.specs.Steps.{Trail}
+use Rattle.parent_rows.specs.Steps.{Trail}
 use Rattle.steps.specs.Filling.{Outgoing, Starting, LeadsInto, Gatherable, Gathers}
-use Rattle.steps.proofs.Trails.{trail-edge, edge-trail}
+use Rattle.parent_rows.proofs.Trails.{trail-edge, edge-trail}
 use Rattle.steps.proofs.Live.{Via, Started, section-fits, section-outgoing, section-leads, live-outgoing, live-via}
 use Rattle.pattern_entries.specs.Pattern.{Led, PatternStageable, PatternStages, LedEntry}
 use Rattle.suffixes.specs.Suffixes.{Spans, PatternEntry, wordOf, baseOf, Child, ChildRow, LeafStageable, LeafStages}

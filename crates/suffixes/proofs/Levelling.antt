@@ -14,7 +14,7 @@ use Rattle.rows.proofs.Rows.{keeps-cell, keeps-row, keeps-empty}
 use Rattle.staging.specs.Stage.{Stages}
 use Rattle.staging.proofs.Adding.{stages-since, stages-kept, stages-within}
 use Rattle.steps.specs.Filling.{Clears}
-use Rattle.steps.specs.Steps.{Word, ParentFillable, FillsParent, ParentClearable}
+use Rattle.parent_rows.specs.Steps.{Word, ParentFillable, FillsParent, ParentClearable}
 use Rattle.suffixes.specs.Suffixes.{PatternEntry, wordOf, baseOf, NodeStageable, LeafStageable, LeavesStage, LevelStages}
 use Rattle.suffixes.proofs.Children.{word-length}
 

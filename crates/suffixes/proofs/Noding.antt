@@ -13,8 +13,8 @@ use Rattle.rows.specs.Rows.{KeepsRows, InRows, NextVertex}
 use Rattle.rows.proofs.Rows.{keeps-then, keeps-cell}
 use Rattle.staging.specs.Stage.{Stages}
 use Rattle.staging.proofs.Adding.{stages-none, stages-as, stages-then, stages-over, stages-within}
-use Rattle.steps.specs.Steps.{Sources}
-use Rattle.steps.proofs.Suffixed.{sources-more}
+use Rattle.parent_rows.specs.Steps.{Sources}
+use Rattle.parent_rows.proofs.Suffixed.{sources-more}
 use Rattle.suffixes.specs.Suffixes.{PatternEntry, wordOf, baseOf, NodeStageable, NodeStages, ChildRow, Child, LevelStages}
 use Rattle.suffixes.proofs.Entries.{one-pattern, child-none}
 use Rattle.suffixes.proofs.Children.{word-length, child-labels}

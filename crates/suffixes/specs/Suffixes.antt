@@ -11,7 +11,7 @@ use Rattle.edges.specs.Grouped.{Grouped}
 use Rattle.rows.specs.Region.{stepRows, parentRows, savedRows, rootRow, childRows}
 use Rattle.rows.specs.Rows.{On, InRows, Empty}
 use Rattle.staging.specs.Stage.{Stages}
-use Rattle.steps.specs.Steps.{Trail, Sources, Parent}
+use Rattle.parent_rows.specs.Steps.{Trail, Sources, Parent}
 
 -- the labels lead from vertex a to vertex b
 pub record Spans (edges l : List ℕ) (a b : ℕ) : Type 0 where

@@ -120,9 +120,9 @@ fn level(
         ⌝ }
 {
     let start = MOST_LONGEST - d;
-    steps::fill_parent(edges, slots, &digits[start..], w, live);
+    parent_rows::fill_parent(edges, slots, &digits[start..], w, live);
     let n = leaves(edges, slots, digits, d, w, starts, live, longest, room, cnt);
-    steps::clear_parent(edges, slots, &digits[start..], w);
+    parent_rows::clear_parent(edges, slots, &digits[start..], w);
     n
 }
 

@@ -34,7 +34,7 @@ fn table(out: &mut [u8]) -> usize
     let Built::Entries(n) = built else {
         return 0;
     };
-    printing::put_entries(out, 0, &index[..n])
+    listing_lines::put_entries(out, 0, &index[..n])
 }
 
 fn main() {

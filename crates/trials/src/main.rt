@@ -15,7 +15,7 @@ const CARD_A: [u8; 18] = [80, 82, 67, 0, 1, 2, 2, 0, 3, 0, 1, 1, 1, 1, 2, 1, 2, 
 fn answer_number(answer: Answer) -> u32 {
     match answer {
         Answer::Accepted => 0,
-        Answer::Refused(refusal) => store::refusal_number(refusal),
+        Answer::Refused(refusal) => replies::refusal_number(refusal),
     }
 }
 
@@ -23,7 +23,7 @@ fn reply_number(reply: QueryReply) -> u32 {
     match reply {
         QueryReply::Yes => 100,
         QueryReply::No => 0,
-        QueryReply::Refused(refusal) => store::refusal_number(refusal),
+        QueryReply::Refused(refusal) => replies::refusal_number(refusal),
     }
 }
 
@@ -126,7 +126,7 @@ fn light_a(start: u32, destination: u32, pattern: &[u8], walk: &mut [u32]) -> u3
     match reply {
         RouteReply::Yes(legs) => legs,
         RouteReply::No => 0,
-        RouteReply::Refused(refusal) => store::refusal_number(refusal),
+        RouteReply::Refused(refusal) => replies::refusal_number(refusal),
     }
 }
 
@@ -174,7 +174,7 @@ fn say_two(text: &[u8], reply: TwoReply) {
             say(b"  between ", middle)
         }
         TwoReply::No => say(text, 0),
-        TwoReply::Refused(refusal) => say(text, store::refusal_number(refusal)),
+        TwoReply::Refused(refusal) => say(text, replies::refusal_number(refusal)),
     }
 }
 

@@ -1,3 +1,1 @@
 pub mod Trials
-pub mod TwoTrials
-pub mod Example

@@ -2,7 +2,7 @@
 use mathlib.Core.Path.{sym, _∙_}
 use native.Mathlib.Omega.{arith}
 use borrow.Author.Needs.{needs}
-use Rattle.card.specs.Card.{CardPasses}
+use Rattle.card_reading.specs.Card.{CardPasses}
 use Rattle.changes.proofs.Reading.{read-stops, read-many, read-full, read-short, read-passes}
 use Rattle.changes.proofs.check_read.Statement.{statement}
 use Rattle.changes.proofs.check_read.Tie as tie

@@ -3,7 +3,8 @@ use mathlib.Core.Path.{_≡_, refl, _∙_}
 use Prim.Native.Nat.{_-_}
 use native.Mathlib.Omega.{arith}
 use lib.ListN.{length, length-set}
-use Rattle.level_search.proofs.Stands.{stands-first, LevelsBuilt, built-start, built-yes, built-no, built-on, built-spent}
+use Rattle.frontier.proofs.Stands.{stands-first}
+use Rattle.level_search.proofs.Built.{LevelsBuilt, built-start, built-yes, built-no, built-on, built-spent}
 use borrow.Author.Needs.{needs}
 use Rattle.level_search.proofs.levels.Statement.{statement}
 use Rattle.level_search.proofs.levels.Tie as tie

@@ -6,7 +6,7 @@ use borrow.Author.Needs.{needs}
 use lib.ListN.{replicate}
 use lib.Seq.{length-take-le}
 use Rattle.model.specs.Computed.Levels.{mostStates}
-use Rattle.level_search.proofs.Front.{marks-long, marks-cleared}
+use Rattle.frontier.proofs.Front.{marks-long, marks-cleared}
 use Rattle.level_search.proofs.run.Statement.{statement}
 use Rattle.level_search.proofs.run.Tie as tie
 

@@ -4,7 +4,7 @@ use mathlib.Core.List.{[]}
 use borrow.Author.Needs.{needs}
 use lib.Seq.{length-take-le}
 use Rattle.calls.specs.Call.{lent}
-use Rattle.level_search.specs.Run.{SearchPasses}
+use Rattle.query_checks.specs.SearchChecks.{SearchPasses}
 use Rattle.level_search.proofs.Call.{part-edges, searchable, meets, search-refused}
 use Rattle.level_search.proofs.search.Statement.{statement}
 use Rattle.level_search.proofs.search.Tie as tie
@@ -16,7 +16,7 @@ start c = c .before .before .before .before .before .before .before .before
 passed : (c : tie.After-known-told2)
     → SearchPasses (record { vertices = start c .args .vertices; longest = start c .args .longest }) (start c .args .start) (start c .args .destination)
     (start c .args .pattern .now) (lent (start c .args .edges .now) [] (start c .args .work .now)) (c .before .checked2 .given .0 .0)
-passed c = rw (c .before .checked2 .given .1) at (c .before .before .before .check .ensures)
+passed c = rw (c .before .checked2 .given .1) at (c .before .before .before .check-search .ensures)
 
 slice-aggregate-run : tie.Need-slice-aggregate-run
 slice-aggregate-run c = sym (length-take-le _ (start (c .before) .args .edges .now) (part-edges (passed (c .before))))
@@ -25,7 +25,7 @@ run-requires : tie.Need-run-requires
 run-requires c κs = let p = passed (c .before .before) in (searchable p, p .room)
 
 returns : tie.Need-returns
-returns c = search-refused _ _ _ _ _ _ (c .before .checked .given .0 .0) (rw (c .before .checked .given .1) at (c .before .before .before .check .ensures))
+returns c = search-refused _ _ _ _ _ _ (c .before .checked .given .0 .0) (rw (c .before .checked .given .1) at (c .before .before .before .check-search .ensures))
 
 returns-2 : tie.Need-returns-2
 returns-2 c = meets (passed (c .before .before .before .before .before)) (c .before .before .run .ensures)

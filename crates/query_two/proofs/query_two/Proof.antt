@@ -17,7 +17,7 @@ start c = c .before .before .before .before .before .before .before .before
 passed : (c : tie.After-enum-told)
     → twoRefusal (record { vertices = start c .args .vertices; longest = start c .args .longest }) (start c .args .start) (start c .args .destination)
     (start c .args .first .now) (start c .args .second .now) ≡ 0
-passed c = sym (c .before .before .check .ensures) ∙ ap answerOf (c .enum-told .given .1)
+passed c = sym (c .before .before .check-two .ensures) ∙ ap answerOf (c .enum-told .given .1)
 
 -- so both are patterns
 keyed : (c : tie.After-enum-told) → Keyed mostLongest (start c .args .first .now) × Keyed mostLongest (start c .args .second .now)
@@ -25,14 +25,14 @@ keyed c = let a = two-leaves _ _ _ _ _ (passed c) in (within (a .bounds) (a .fir
 
 returns : tie.Need-returns
 returns c =
-    two-refused _ _ _ _ _ _ (c .before .checked .given .0 .0) (sym (c .before .before .before .check .ensures) ∙ ap answerOf (c .before .checked .given .1))
+    two-refused _ _ _ _ _ _ (c .before .checked .given .0 .0) (sym (c .before .before .before .check-two .ensures) ∙ ap answerOf (c .before .checked .given .1))
 
-is-lacking-requires : tie.Need-is-lacking-requires
-is-lacking-requires c κs = keyed c
+is-either-lacking-requires : tie.Need-is-either-lacking-requires
+is-either-lacking-requires c κs = keyed c
 
 returns-2 : tie.Need-returns-2
 returns-2 c =
-    rw (two-lacking _ _ _ _ _ _ (passed (c .before .before)) (sym (c .before .is-lacking .ensures) ∙ c .if1 .taken))
+    rw (two-lacking _ _ _ _ _ _ (passed (c .before .before)) (sym (c .before .is-either-lacking .ensures) ∙ c .if1 .taken))
     (record { reply-is = refl; edges-after = refl; index-after = refl; work-after = refl; output-after = refl })
 
 are-once-requires : tie.Need-are-once-requires
@@ -44,7 +44,7 @@ ask-requires c κs = (passed (c .before .before .before .before), sym (c .before
 returns-3 : tie.Need-returns-3
 returns-3 c =
     let whole = c .before .before .before in
-    c .ask .ensures _ _ .is _ (sym (whole .before .is-lacking .ensures) ∙ whole .if1 .left)
+    c .ask .ensures _ _ .is _ (sym (whole .before .is-either-lacking .ensures) ∙ whole .if1 .left)
 
 search-requires : tie.Need-search-requires
 search-requires c κs =
@@ -55,7 +55,7 @@ returns-4 : tie.Need-returns-4
 returns-4 c =
     let done = c .before .before in
     let whole = done .before .before .before .before in
-    done .search .ensures .is _ (sym (whole .before .is-lacking .ensures) ∙ whole .if1 .left)
+    done .search .ensures .is _ (sym (whole .before .is-either-lacking .ensures) ∙ whole .if1 .left)
 
 pub query-two-spec : {M : Type 1} → statement M
 query-two-spec =
@@ -65,7 +65,7 @@ query-two-spec =
     (λ c. search needs)
     returns
     (λ c. search needs)
-    is-lacking-requires
+    is-either-lacking-requires
     returns-2
     are-once-requires
     ask-requires

@@ -1,8 +1,7 @@
 -- `rlc_c::rlc_write_card` meets its contract.
 use mathlib.Core.Path.{sym, ap, _∙_}
-use Prim.Native.Nat.{ℕ, _*_}
 use Rattle.store.specs.Store.{wroteOf}
-use Rattle.rlc_c.specs.Interface.{replyUnit, wroteInC}
+use Rattle.rlc_c.specs.Interface.{wroteInC}
 use Rattle.rlc_c.proofs.Handing.{other, ten, size-is, untouched, called}
 use borrow.Author.Needs.{needs}
 use Rattle.rlc_c.proofs.rlc_write_card.Statement.{statement}
@@ -21,7 +20,7 @@ returns-3 : tie.Need-returns-3
 returns-3 c =
     let call = c .before .before .before .before .before .before in
     let read = call .before .before in
-    rw (ten (read .before .before .before .before .before .args .words .now) (read .before .if1 .left)) (called wroteInC (rw (size-is (read .header-in .ensures)) at (call .write-card .ensures)) (ap (λ (n : ℕ). n * replyUnit) (c .refusal-number .ensures) ∙ ap wroteInC (ap wroteOf (sym (c .before .before .written2 .given .1)))))
+    rw (ten (read .before .before .before .before .before .args .words .now) (read .before .if1 .left)) (called wroteInC (rw (size-is (read .header-in .ensures)) at (call .write-card .ensures)) (c .refused-number .ensures ∙ ap wroteInC (ap wroteOf (sym (c .before .before .written2 .given .1)))))
 
 pub rlc-write-card-spec : {M : Type 1} → statement M
 rlc-write-card-spec =
@@ -35,8 +34,6 @@ rlc-write-card-spec =
     (λ c. search needs)
     (λ c. search needs)
     (λ c κs. search needs)
-    (λ c. search needs)
-    (λ c. search needs)
     (λ c. search needs)
     returns-2
     (λ c. search needs)

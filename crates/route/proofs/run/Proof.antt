@@ -6,7 +6,7 @@ use native.Mathlib.Nat.{le-of-eq}
 use lib.ListN.{length, take, drop, replicate}
 use lib.Seq.{length-take-le}
 use Rattle.model.specs.Limits.{leastWork}
-use Rattle.level_search.proofs.Front.{front-length, front-zero, front-same, front-again}
+use Rattle.frontier.proofs.Front.{front-length, front-zero, front-same, front-again}
 use Rattle.route.specs.Run.{Linked, LightsAt}
 use Rattle.route.proofs.Lighting.{traced-linked, traced-lights}
 use borrow.Author.Needs.{needs}

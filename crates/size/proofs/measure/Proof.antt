@@ -1,84 +1,19 @@
--- `size::measure` meets its contract: what stands in memory after the card reading is counted, or the refusal is told.
+-- `size::measure` meets its contract: the memory made for the card can be measured in.
+use Prim.Native.Nat.{ℕ}
 use native.Mathlib.Omega.{arith}
-use Prim.Native.Nat.{_≤_}
 use borrow.Author.Needs.{needs}
-use Rattle.model.specs.Lists.{Bytes}
-use Rattle.memory.proofs.Reading.{standing-within}
-use Rattle.calls.specs.Call.{lent, Meets}
-use Rattle.calls.specs.Card.{readCall}
-use Rattle.calls.proofs.Card.{bytes-known}
-use Rattle.store.specs.Store.{returned}
-use Rattle.printing.specs.Puts.{Puts}
-use Rattle.printing.specs.Lines.{sizeLine}
-use Rattle.size.specs.Sizing.{sizedMemory}
-use Rattle.size.proofs.Sized.{puts-sizes, puts-refusal}
+use lib.ListN.{length-replicate}
+use Rattle.model.specs.Limits.{mostEdges}
+use Rattle.size.specs.Sizing.{sizedSlots}
 use Rattle.size.proofs.measure.Statement.{statement}
 use Rattle.size.proofs.measure.Tie as tie
 
--- the card reading, from the arm of an accepted card and from that of a refused one
-abbrev read : tie.After-standing-u32 → tie.After-read-card
-read c = c .before .before .before .before .before .before .before .before
-
-abbrev refused : tie.After-answer → tie.After-read-card
-refused c = c .before .before .before .before .before .before
-
-abbrev start : tie.After-read-card → tie.Start
-start c = c .before .before .before .before .before .before
-
--- the card is bytes
-bytes : (c : tie.After-read-card) → Bytes (start c .args .card .now)
-bytes c = bytes-known (start c .args .card .now) (λ i. omega (arith, c .before .before .before .before .before .shared-slice-known .given i))
-
--- the card was read into the program's memory
-met : (c : tie.After-read-card) → Meets (readCall (start c .args .card .now) sizedMemory) (returned (c .read-card .result))
-    (lent (c .read-card .last .1 .0) (c .read-card .last .1 .1 .0) (c .read-card .last .1 .1 .1 .0))
-met c = c .read-card .ensures
-
--- no more edges stand than slots, and no more entries
-few : (c : tie.After-standing-u64) → (c .before .before .standing-u32 .result ≤ 1024) × (c .standing-u64 .result ≤ 262144)
-few c =
-    let edges = c .before .before in
-    let card = read edges .read-card in (
-      omega (arith, edges .standing-u32 .ensures, standing-within (card .last .1 .0), card .kept .1 .0),
-      omega (arith, c .standing-u64 .ensures, standing-within (card .last .1 .1 .0), card .kept .1 .1 .0),
-    )
-
--- what is put is the line of the edges and entries counted
-put-is : (c : tie.After-put-sizes) →
-    let entries = c .before .before in
-    let edges = entries .before .before in
-    let card = read edges in
-    let header = card .read-card .result .header in
-    Puts (start card .args .out .now) 0 (sizeLine (header .vertices) (header .longest) (edges .standing-u32 .result) (entries .standing-u64 .result))
-    (c .put-sizes .last .0) (c .put-sizes .result)
-put-is c = c .put-sizes .ensures
-
-cast-put-sizes : tie.Need-cast-put-sizes
-cast-put-sizes c = omega (arith, few (c .before))
-
-cast-put-sizes-2 : tie.Need-cast-put-sizes-2
-cast-put-sizes-2 c = omega (arith, few (c .before))
-
-put-sizes-requires : tie.Need-put-sizes-requires
-put-sizes-requires c κs =
-    let entries = c .before in
-    let card = read (entries .before .before) in
-    (omega (arith, few entries), omega (arith, start card .pre))
-
-returns : tie.Need-returns
-returns c =
-    let number = c .before .before .before in
-    let answer = number .before .before .before in
-    puts-refusal _ (met (refused answer)) (answer .answer .given .1) (number .refusal-number .ensures) (c .before .before .put-refusal .ensures)
-
-returns-2 : tie.Need-returns-2
-returns-2 c =
-    let put = c .before .before in
-    let entries = put .before .before in
-    let edges = entries .before .before in
-    let told = edges .before .before in
-    puts-sizes _ (met (read edges)) (bytes (read edges)) (told .enum-told .given .1) (edges .standing-u32 .ensures) (entries .standing-u64 .ensures)
-    (put-is put)
+measure-requires : tie.Need-measure-requires
+measure-requires c κs = record {
+  edges-few = omega (arith, length-replicate {A = ℕ} mostEdges 0);
+  index-few = omega (arith, length-replicate {A = ℕ} sizedSlots 0);
+  room = c .before .before .before .before .before .before .pre;
+}
 
 pub measure-spec : {M : Type 1} → statement M
 measure-spec =
@@ -87,19 +22,6 @@ measure-spec =
     (λ c. search needs)
     (λ c. search needs)
     (λ c. search needs)
-    (λ c κs. search needs)
+    measure-requires
     (λ c. search needs)
-    (λ c κs. search needs)
-    (λ c κs. search needs)
-    (λ c. search needs)
-    (λ c. search needs)
-    (λ c κs. search needs)
-    (λ c. search needs)
-    (λ c κs. search needs)
-    cast-put-sizes
-    cast-put-sizes-2
-    put-sizes-requires
-    (λ c. search needs)
-    returns
-    (λ c. search needs)
-    returns-2)
+    (λ c. search needs))

@@ -4,7 +4,7 @@ use mathlib.Core.List.{[]}
 use native.Mathlib.Omega.{arith}
 use borrow.Author.Needs.{needs}
 use lib.Seq.{length-take-le}
-use Rattle.card.specs.Card.{WritePasses}
+use Rattle.card_writing.specs.Card.{WritePasses}
 use Rattle.store.specs.Store.{numbers}
 use Rattle.store.proofs.CardOut.{write-stops, memory, writable, wrote}
 use Rattle.store.proofs.write_card.Statement.{statement}

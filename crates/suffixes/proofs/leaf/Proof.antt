@@ -14,8 +14,7 @@ use Rattle.model.proofs.Patterns.{keyed-up}
 use Rattle.edges.specs.Grouped.{section}
 use Rattle.steps.specs.Filling.{Gathers}
 use Rattle.suffixes.specs.Suffixes.{wordOf}
-use Rattle.suffixes.proofs.Leafing.{of-label, gatherable, gathered-fit, outgoing, part-word, keyed, pattern-stageable}
-use Rattle.suffixes.proofs.Leafing.{leaf-empty, leaf-folds, leaf-stages}
+use Rattle.suffixes.proofs.Leafing.{of-label, gatherable, gathered-fit, outgoing, part-word, keyed, pattern-stageable, leaf-empty, leaf-folds, leaf-stages}
 use Rattle.suffixes.proofs.leaf.Statement.{statement}
 use Rattle.suffixes.proofs.leaf.Tie as tie
 

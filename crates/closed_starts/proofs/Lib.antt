@@ -1,0 +1,3 @@
+pub mod Emitting
+pub mod Striking
+pub mod Passing

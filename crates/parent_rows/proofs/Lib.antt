@@ -1,0 +1,3 @@
+pub mod Trails
+pub mod Turning
+pub mod Suffixed

@@ -1,0 +1,1 @@
+// The worked list of calls, by computation (specs/, proofs/). There is no code.
