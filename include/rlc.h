@@ -131,7 +131,7 @@ extern "C" {
 
 /* This interface: its first number times 100 and its second. A program written for another first number has to be changed
  * (docs/CHANGES.md says where). */
-#define RLC_VERSION 401
+#define RLC_VERSION 402
 
 /* Sizes: numbers of a record; numbers of work memory to build an index in so many slots (with 0 slots: for a query, a search or a
  * route); bytes of a card with so many edges. */

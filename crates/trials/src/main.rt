@@ -1,9 +1,7 @@
 // The unstarred trial runs of document 01 and document 02's of a pattern keyed twice, of routes, of totals and of two patterns, through the public
 // calls: a line for each, with 0 if it is accepted or for a no, 100 for a yes, or the number of the refusal; of a route the number of its legs and a
 // line for each leg; of a record its places, and a line for k and for each total; of two patterns a line for the place between.
-use model::Answer;
 use model::MOST_LABEL;
-use model::QueryReply;
 use model::RouteReply;
 use model::TwoReply;
 use store::Changed;
@@ -11,21 +9,6 @@ use store::Header;
 
 // "Layout A is the card above."
 const CARD_A: [u8; 18] = [80, 82, 67, 0, 1, 2, 2, 0, 3, 0, 1, 1, 1, 1, 2, 1, 2, 0];
-
-fn answer_number(answer: Answer) -> u32 {
-    match answer {
-        Answer::Accepted => 0,
-        Answer::Refused(refusal) => replies::refusal_number(refusal),
-    }
-}
-
-fn reply_number(reply: QueryReply) -> u32 {
-    match reply {
-        QueryReply::Yes => 100,
-        QueryReply::No => 0,
-        QueryReply::Refused(refusal) => replies::refusal_number(refusal),
-    }
-}
 
 fn say(text: &[u8], number: u32) {
     io::write_all(libc::STDOUT_FILENO, text);
@@ -43,7 +26,7 @@ fn card_a(edges: &mut [u32], index: &mut [u64]) -> Changed {
 fn read_a(edges: &mut [u32], index: &mut [u64]) -> u32 {
     let changed = card_a(edges, index);
     let answer = changed.answer;
-    answer_number(answer)
+    replies::answer_number(answer)
 }
 
 // Layout A from its card: the record handed back, with leg and index memory filled.
@@ -62,7 +45,7 @@ fn open(vertices: u32, longest: u32) -> u32 {
     };
     let changed = header.open(&mut edges, &mut index);
     let answer = changed.answer;
-    answer_number(answer)
+    replies::answer_number(answer)
 }
 
 // A question on layout A.
@@ -80,7 +63,7 @@ fn ask_a(start: u32, destination: u32, pattern: &[u8]) -> u32 {
         &index,
         &mut work,
     );
-    reply_number(reply)
+    replies::query_number(reply)
 }
 
 // The question 0 to 1 by label 3 on layout A, where the record gives label 3 that total. Index memory is damaged: an entry stands behind a zero.
@@ -98,7 +81,7 @@ fn ask_damaged_a(total: u32) -> u32 {
     };
     index[0] = 0;
     let reply = store::query(told, 0, 1, b"\x03", &edges, &index, &mut work);
-    reply_number(reply)
+    replies::query_number(reply)
 }
 
 // A question, 0 to 1, with the single leg 0-1-1.
@@ -113,7 +96,7 @@ fn ask_one_leg(pattern: &[u8]) -> u32 {
     };
     let laid = header.insert(0, 1, 1, &mut edges, &mut index, &mut work);
     let reply = store::query(laid.header, 0, 1, pattern, &edges, &index, &mut work);
-    reply_number(reply)
+    replies::query_number(reply)
 }
 
 // A route on layout A: the number of its legs, or of the refusal.
@@ -137,7 +120,7 @@ fn lay_in_a(from: u32, label: u32, to: u32) -> u32 {
     let header = layout_a(&mut edges, &mut index);
     let changed = header.insert(from, label, to, &mut edges, &mut index, &mut work);
     let answer = changed.answer;
-    answer_number(answer)
+    replies::answer_number(answer)
 }
 
 // The routes of document 02, Three.
