@@ -1,15 +1,13 @@
 // The layout card read: the checks of its bytes (14 15 2 16), and its edges put into edge memory.
-use model::FROM_UNIT;
 use model::HEAD_BYTES;
-use model::LABEL_UNIT;
 use model::Refusal;
 use model::TRIPLE_BYTES;
 ghost use mathlib.Core.Path.{_≡_};
-ghost use Prim.Native.Nat.{_+_, _%_, _≤_, _<_};
+ghost use Prim.Native.Nat.{_+_, _≤_, _<_};
 ghost use lib.ListN.{length, drop};
-ghost use Rattle.model.specs.Limits.{headBytes, tripleBytes};
+ghost use Rattle.model.specs.Limits.{headBytes};
 ghost use Rattle.model.specs.Lists.{filled};
-ghost use Rattle.calls.specs.Card.{marked?, wordAt, edgeAt, edgeAt?, edgesOf, risingTriples?, cardEdges?};
+ghost use Rattle.calls.specs.Card.{marked?, wordAt, edgesOf, cardEdges?};
 ghost use Rattle.card_reading.specs.Card.{CardChecks, Fillable};
 
 // What the checks of a card alone find: vertices, k and how many edges, or the refusal.
@@ -43,50 +41,6 @@ fn word(card: &[u8], at: usize) -> u32
     high * 256 + low
 }
 
-// Whether the three bytes from `at` on name an edge of a layout with so many vertices. Ends and label are compared as they stand.
-fn is_edge_at(vertices: u32, bytes: &[u8], at: usize) -> bool
-    requires { ⌜ at + 2 < length (now bytes) ⌝ }
-    ensures { λ r. ⌜ r ≡ edgeAt? vertices (now (bytes .entry)) at ⌝ }
-{
-    let from = bytes[at] as u32;
-    let label = bytes[at + 1] as u32;
-    let to = bytes[at + 2] as u32;
-    if checks::are_vertices(vertices, from, to) {
-        return checks::is_label(label);
-    }
-    false
-}
-
-// The number of the edge that they name.
-fn edge_at(bytes: &[u8], at: usize) -> u32
-    requires { ⌜ at + 2 < length (now bytes) ⌝ }
-    ensures { λ r. ⌜ r ≡ edgeAt (now (bytes .entry)) at ⌝ }
-{
-    bytes[at] as u32 * FROM_UNIT + bytes[at + 1] as u32 * LABEL_UNIT + bytes[at + 2] as u32
-}
-
-// Whether the edges named by the bytes are rising edges of a layout with so many vertices.
-fn are_rising(vertices: u32, body: &[u8]) -> bool
-    requires { ⌜ length (now body) % tripleBytes ≡ 0 ⌝ }
-    ensures { λ r. ⌜ r ≡ risingTriples? vertices 0 (now (body .entry)) ⌝ }
-{
-    let mut prev: u32 = 0;
-    let mut i = 0;
-    while i < body.len() {
-        if is_edge_at(vertices, body, i) {
-            let x = edge_at(body, i);
-            if x <= prev {
-                return false;
-            }
-            prev = x;
-            i += TRIPLE_BYTES;
-        } else {
-            return false;
-        }
-    }
-    true
-}
-
 // Check 16.
 fn has_edges(card: &[u8]) -> bool
     requires { ⌜ headBytes ≤ length (now card) ⌝ }
@@ -96,7 +50,7 @@ fn has_edges(card: &[u8]) -> bool
     if card.len() != HEAD_BYTES + TRIPLE_BYTES * n {
         return false;
     }
-    are_rising(card[5] as u32 + 1, &card[HEAD_BYTES..])
+    card_edges::are_rising(card[5] as u32 + 1, &card[HEAD_BYTES..])
 }
 
 // The checks of the card alone, in their order: 14 15 2 16.
@@ -126,7 +80,7 @@ pub fn fill(card: &[u8], n: usize, edges: &mut [u32])
 {
     let mut i = 0;
     while i < n {
-        edges[i] = edge_at(card, HEAD_BYTES + TRIPLE_BYTES * i);
+        edges[i] = card_edges::edge_at(card, HEAD_BYTES + TRIPLE_BYTES * i);
         i += 1;
     }
     memory::clear_u32(&mut edges[n..]);

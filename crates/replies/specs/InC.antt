@@ -1,13 +1,9 @@
--- Replies and records as numbers, as the C interface tells them.
+-- Replies as numbers, as the C interface tells them.
 use Prim.Native.Nat.{ℕ, _+_, _*_, _^_}
 use Rattle.model.specs.Query.{Answered, Yes as AnsweredYes, No as AnsweredNo, Refused as AnsweredRefused}
 use Rattle.model.specs.States.{Reply, Yes, No, Spent, Refused}
 use Rattle.model.specs.Routes.{Routed, Yes as RoutedYes, No as RoutedNo, Refused as RoutedRefused}
 use Rattle.model.specs.Middles.{TwoAnswered, Yes as TwoYes, No as TwoNo, Refused as TwoRefused}
-
--- a record has ten numbers
-abbrev pub recordNumbers : ℕ
-recordNumbers = 10
 
 -- "0 no, 100 yes, else the number"
 abbrev pub answeredInC : Answered → ℕ

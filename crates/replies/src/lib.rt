@@ -1,6 +1,5 @@
-// Replies and records as numbers, as the C interface tells them.
+// Replies and refusals as numbers, as the C interface tells them.
 use model::Answer;
-use model::MOST_LABEL;
 use model::QueryReply;
 use model::Refusal;
 use model::RouteReply;
@@ -8,10 +7,8 @@ use model::SearchReply;
 use model::TwoReply;
 ghost use mathlib.Core.Path.{_≡_};
 ghost use Prim.Native.Nat.{_*_};
-ghost use mathlib.Core.List.{_∷_, _++_};
-ghost use lib.ListN.{length, take};
 ghost use Rattle.model.specs.Replies.{answeredOf, answerOf, numberOf, replyOf, routedOf, twoAnsweredOf};
-ghost use Rattle.replies.specs.InC.{recordNumbers, replyUnit, answeredInC, repliedInC, routedInC, twoAnsweredInC};
+ghost use Rattle.replies.specs.InC.{replyUnit, answeredInC, repliedInC, routedInC, twoAnsweredInC};
 
 const YES: u32 = 100;
 
@@ -106,26 +103,4 @@ pub fn route_number(reply: RouteReply) -> u64
         RouteReply::No => 0,
         RouteReply::Refused(refusal) => refused_number(refusal),
     }
-}
-
-// Writes the totals behind the first two numbers of a record.
-fn write_totals(words: &mut [u32], totals: [u32; MOST_LABEL])
-    requires { ⌜ length (now words) ≡ recordNumbers ⌝ }
-    ensures { λ _. ⌜ now (words .exit) ≡ take 2 (now (words .entry)) ++ totals ⌝ }
-{
-    let mut i = 0;
-    while i < MOST_LABEL {
-        words[2 + i] = totals[i];
-        i += 1;
-    }
-}
-
-// Writes a record.
-pub fn write_record(words: &mut [u32], vertices: u32, longest: u32, totals: [u32; MOST_LABEL])
-    requires { ⌜ length (now words) ≡ recordNumbers ⌝ }
-    ensures { λ _. ⌜ now (words .exit) ≡ vertices ∷ longest ∷ totals ⌝ }
-{
-    words[0] = vertices;
-    words[1] = longest;
-    write_totals(words, totals);
 }

@@ -17,7 +17,7 @@ use Rattle.calls.specs.Change.{openChange, openCall, insertChange, insertCall, 
 use Rattle.calls.proofs.Change.{handed-some}
 use Rattle.store.specs.Store.{returned}
 use Rattle.store.specs.declared.Changed.{Changed}
-use Rattle.replies.specs.InC.{recordNumbers}
+use Rattle.records.specs.Record.{recordNumbers}
 use Rattle.rlc_c.specs.Interface.{headerIn, wordsOf, record?, otherRecord, wordsAfter, HandsBack, ChangesInC}
 
 -- a record of another length

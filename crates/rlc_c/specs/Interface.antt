@@ -7,7 +7,8 @@ use lib.Dec.{eqb}
 use lib.ListN.{length, getD, drop}
 use Rattle.model.specs.Replies.{answerOf}
 use Rattle.calls.specs.Call.{Header, Memory, Outcome, Meets, Returned, Wrote, Length, Refused as NotWritten}
-use Rattle.replies.specs.InC.{recordNumbers, replyUnit}
+use Rattle.records.specs.Record.{recordNumbers}
+use Rattle.replies.specs.InC.{replyUnit}
 use Rattle.store.specs.Store.{numbers}
 use Rattle.store.specs.declared.Changed.{Changed}
 

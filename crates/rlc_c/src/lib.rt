@@ -18,7 +18,8 @@ ghost use Rattle.calls.specs.QueryTwo.{queryTwoCall};
 ghost use Rattle.calls.specs.Change.{openCall, insertCall, removeCall};
 ghost use Rattle.calls.specs.Card.{readCall, writeCall};
 ghost use Rattle.store.specs.Store.{numbers};
-ghost use Rattle.replies.specs.InC.{recordNumbers, replyUnit, answeredInC, twoAnsweredInC, repliedInC, routedInC};
+ghost use Rattle.records.specs.Record.{recordNumbers};
+ghost use Rattle.replies.specs.InC.{replyUnit, answeredInC, twoAnsweredInC, repliedInC, routedInC};
 ghost use Rattle.rlc_c.specs.Interface.{headerIn, otherRecord, inC, HandsBack, ChangesInC, wroteInC};
 
 // How many numbers a record has: vertices, longest pattern, and a total for each label.
@@ -57,7 +58,7 @@ fn hand_back(words: &mut [u32], changed: Changed) -> u32
 {
     let header = changed.header;
     let totals = header.totals;
-    replies::write_record(words, header.vertices, header.longest, totals);
+    records::write_record(words, header.vertices, header.longest, totals);
     let answer = changed.answer;
     replies::answer_number(answer)
 }

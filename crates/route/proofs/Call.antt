@@ -18,7 +18,8 @@ use Rattle.calls.proofs.Calls.{refused-meets, accepted-is}
 use Rattle.calls.proofs.Route.{lighting-leaves}
 use Rattle.checks.proofs.LayoutChecks.{layout-memory}
 use Rattle.query_checks.specs.SearchChecks.{SearchPasses}
-use Rattle.route.specs.Run.{Lights, Shows}
+use Rattle.route_walk.specs.Walk.{Lights}
+use Rattle.route.specs.Run.{Shows}
 
 module _ (h : Size) (s t : ℕ) (pattern : List ℕ) (m : Memory) where
   -- the checks do not look at walk memory

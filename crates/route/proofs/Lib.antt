@@ -1,3 +1,1 @@
-pub mod Tracing
-pub mod Lighting
 pub mod Call

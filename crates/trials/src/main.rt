@@ -239,29 +239,49 @@ fn say_record_a() {
     say(b"  label 8 ", totals[7]);
 }
 
-fn main() {
+// Card A into as many index slots as it needs, and one fewer.
+fn say_cards() {
     let mut edges = [0u32; 3];
     let mut five = [0u64; 5];
     let mut four = [0u64; 4];
     say(b"card A, 5 index slots: ", read_a(&mut edges, &mut five));
     say(b"card A, 4 index slots: ", read_a(&mut edges, &mut four));
+}
+
+// The most places and the longest pattern, and one more.
+fn say_openings() {
     say(b"256 places: ", open(256, 4));
     say(b"257 places: ", open(257, 4));
     say(b"k 4: ", open(1, 4));
     say(b"k 5: ", open(1, 5));
+}
+
+// Questions and a leg laid again on layout A, and a pattern keyed twice on a single leg.
+fn say_questions() {
     say(b"A, 0 to 2 by 1: ", ask_a(0, 2, b"\x01"));
     say(b"A, 0 to 3 by 1: ", ask_a(0, 3, b"\x01"));
     say(b"A, 0 to 0 by 1 2 1: ", ask_a(0, 0, b"\x01\x02\x01"));
     say(b"laying 0-1-1 in A: ", lay_in_a(0, 1, 1));
     say(b"leg 0-1-1, 0 to 1 by 1 1: ", ask_one_leg(b"\x01\x01"));
     say(b"leg 0-1-1, 0 to 1 by 1: ", ask_one_leg(b"\x01"));
-    say_routes();
-    say_record_a();
+}
+
+// Questions with a colour that layout A lacks.
+fn say_lacking() {
     say(b"A, 0 to 1 by 3: ", ask_a(0, 1, b"\x03"));
     say(b"A, 0 to 1 by 3, damaged index: ", ask_damaged_a(0));
     say(
         b"A, 0 to 1 by 3, damaged index, total 1 told: ",
         ask_damaged_a(1),
     );
+}
+
+fn main() {
+    say_cards();
+    say_openings();
+    say_questions();
+    say_routes();
+    say_record_a();
+    say_lacking();
     say_two_patterns();
 }

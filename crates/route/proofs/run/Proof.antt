@@ -7,8 +7,8 @@ use lib.ListN.{length, take, drop, replicate}
 use lib.Seq.{length-take-le}
 use Rattle.model.specs.Limits.{leastWork}
 use Rattle.frontier.proofs.Front.{front-length, front-zero, front-same, front-again}
-use Rattle.route.specs.Run.{Linked, LightsAt}
-use Rattle.route.proofs.Lighting.{traced-linked, traced-lights}
+use Rattle.route_walk.specs.Walk.{Linked, LightsAt}
+use Rattle.route_walk.proofs.Lighting.{traced-linked, traced-lights}
 use borrow.Author.Needs.{needs}
 use Rattle.route.proofs.run.Statement.{statement}
 use Rattle.route.proofs.run.Tie as tie

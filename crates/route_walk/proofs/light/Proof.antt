@@ -1,9 +1,9 @@
--- `route::light` meets its contract: the walk is counted, and written where it fits.
+-- `route_walk::light` meets its contract: the walk is counted, and written where it fits.
 use native.Mathlib.Omega.{arith}
-use Rattle.route.proofs.Lighting.{light-none, light-short, light-yes}
+use Rattle.route_walk.proofs.Lighting.{light-none, light-short, light-yes}
 use borrow.Author.Needs.{needs}
-use Rattle.route.proofs.light.Statement.{statement}
-use Rattle.route.proofs.light.Tie as tie
+use Rattle.route_walk.proofs.light.Statement.{statement}
+use Rattle.route_walk.proofs.light.Tie as tie
 
 returns : tie.Need-returns
 returns c = light-none _ (c .if1 .taken)

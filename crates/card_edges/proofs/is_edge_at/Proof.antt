@@ -1,11 +1,11 @@
--- `card_reading::is_edge_at` meets its contract.
+-- `card_edges::is_edge_at` meets its contract.
 use mathlib.Core.Path.{sym, _∙_}
 use Prim.Native.Nat.{_+_}
 use native.Mathlib.Omega.{arith}
 use borrow.Author.Needs.{needs}
 use Rattle.calls.proofs.Card.{and-pass, and-stop}
-use Rattle.card_reading.proofs.is_edge_at.Statement.{statement}
-use Rattle.card_reading.proofs.is_edge_at.Tie as tie
+use Rattle.card_edges.proofs.is_edge_at.Statement.{statement}
+use Rattle.card_edges.proofs.is_edge_at.Tie as tie
 
 cast-from : tie.Need-cast-from
 cast-from c = omega (arith, c .shared-slice-known2 .given (c .before .before .args .at))

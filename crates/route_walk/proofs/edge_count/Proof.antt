@@ -1,10 +1,10 @@
--- `route::edge_count` meets its contract: n links are read, and the rest begins at `at`.
+-- `route_walk::edge_count` meets its contract: n links are read, and the rest begins at `at`.
 use Prim.Native.Nat.{_≤_}
 use native.Mathlib.Omega.{arith}
 use Rattle.model.specs.Computed.Levels.{mostStates}
-use Rattle.route.proofs.Tracing.{linking, CountingLinks, counting-start, counting-more, counting-end}
-use Rattle.route.proofs.edge_count.Statement.{statement}
-use Rattle.route.proofs.edge_count.Tie as tie
+use Rattle.route_walk.proofs.Tracing.{linking, CountingLinks, counting-start, counting-more, counting-end}
+use Rattle.route_walk.proofs.edge_count.Statement.{statement}
+use Rattle.route_walk.proofs.edge_count.Tie as tie
 
 abbrev Inv-loop : tie.InvT-loop
 Inv-loop work place at₀ n₀ at n = CountingLinks work place at n

@@ -7,7 +7,7 @@ use native.Mathlib.Omega.{arith}
 use lib.ListN.{length, getD, set, take, length-set}
 use lib.Seq.{take-all, take-suc, take-suc-set}
 use Rattle.model.specs.Limits.{mostLabel}
-use Rattle.replies.specs.InC.{recordNumbers}
+use Rattle.records.specs.Record.{recordNumbers}
 
 -- the first two numbers written, and behind them the totals
 pub written : (words totals : List ℕ) (a b : ℕ) → length words ≡ recordNumbers → take 2 (set (set words 0 a) 1 b) ++ totals ≡ a ∷ b ∷ totals

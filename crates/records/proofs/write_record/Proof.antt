@@ -1,10 +1,10 @@
--- `replies::write_record` meets its contract.
+-- `records::write_record` meets its contract.
 use mathlib.Core.Path.{_∙_}
 use lib.ListN.{length-set}
-use Rattle.replies.proofs.Writing.{written}
+use Rattle.records.proofs.Writing.{written}
 use borrow.Author.Needs.{needs}
-use Rattle.replies.proofs.write_record.Statement.{statement}
-use Rattle.replies.proofs.write_record.Tie as tie
+use Rattle.records.proofs.write_record.Statement.{statement}
+use Rattle.records.proofs.write_record.Tie as tie
 
 same-length : tie.Need-same-length
 same-length c = c .before .before .write-totals .kept .0 ∙ simp length-set

@@ -1,10 +1,10 @@
--- `route::write_walk` meets its contract: the edges from slot i on are written, and the rest begins at `at`.
+-- `route_walk::write_walk` meets its contract: the edges from slot i on are written, and the rest begins at `at`.
 use Prim.Native.Nat.{_≤_}
 use native.Mathlib.Omega.{arith}
 use Rattle.model.specs.Computed.Levels.{mostStates}
-use Rattle.route.proofs.Tracing.{WritingWalk, writing-start, writing-more, writing-end}
-use Rattle.route.proofs.write_walk.Statement.{statement}
-use Rattle.route.proofs.write_walk.Tie as tie
+use Rattle.route_walk.proofs.Tracing.{WritingWalk, writing-start, writing-more, writing-end}
+use Rattle.route_walk.proofs.write_walk.Statement.{statement}
+use Rattle.route_walk.proofs.write_walk.Tie as tie
 
 abbrev Inv-loop : tie.InvT-loop
 Inv-loop work place n walk₀ at₀ i₀ walk at i = WritingWalk work place at i walk₀ walk

@@ -1,9 +1,9 @@
--- `card_reading::edge_at` meets its contract: three bytes fit in a number.
+-- `card_edges::edge_at` meets its contract: three bytes fit in a number.
 use Prim.Native.Nat.{_+_}
 use native.Mathlib.Omega.{arith}
 use borrow.Author.Needs.{needs}
-use Rattle.card_reading.proofs.edge_at.Statement.{statement}
-use Rattle.card_reading.proofs.edge_at.Tie as tie
+use Rattle.card_edges.proofs.edge_at.Statement.{statement}
+use Rattle.card_edges.proofs.edge_at.Tie as tie
 
 cast-result : tie.Need-cast-result
 cast-result c = omega (arith, c .shared-slice-known .given (c .before .args .at))

@@ -1,13 +1,13 @@
--- `replies::write_totals` meets its contract: the totals before i are written.
+-- `records::write_totals` meets its contract: the totals before i are written.
 use mathlib.Core.Path.{_≡_}
 use Prim.Native.Nat.{_-_}
 use native.Mathlib.Omega.{arith}
 use borrow.Author.Needs.{needs}
 use lib.ListN.{length}
 use Rattle.model.specs.Limits.{mostLabel}
-use Rattle.replies.proofs.Writing.{TotalsWritten, none-written, one-written, all-written}
-use Rattle.replies.proofs.write_totals.Statement.{statement}
-use Rattle.replies.proofs.write_totals.Tie as tie
+use Rattle.records.proofs.Writing.{TotalsWritten, none-written, one-written, all-written}
+use Rattle.records.proofs.write_totals.Statement.{statement}
+use Rattle.records.proofs.write_totals.Tie as tie
 
 abbrev Inv-loop : tie.InvT-loop
 Inv-loop words₀ totals i₀ words i = TotalsWritten words₀ totals words i

@@ -15,8 +15,8 @@ use Rattle.model.proofs.RouteSearch.{route-is, route-none}
 use Rattle.calls.proofs.Route.{lighting-none, lighting-yes, lighting-short}
 use Rattle.frontier.specs.Search.{Searchable}
 use Rattle.route_search.specs.Traced.{Chain, Traced}
-use Rattle.route.specs.Run.{Linked, CountsLinks, WritesWalk, Lights, LightsAt}
-use Rattle.route.proofs.Tracing.{chain-some}
+use Rattle.route_walk.specs.Walk.{Linked, CountsLinks, WritesWalk, Lights, LightsAt}
+use Rattle.route_walk.proofs.Tracing.{chain-some}
 
 lights-none : (walk : List ℕ) → Lights [] walk walk No
 lights-none walk = record { is = λ m e. rw (lighting-none m) (refl, sym e) }

@@ -1,4 +1,4 @@
--- `card_reading::are_rising` meets its contract. The invariant: the edges from byte i on say what all edges say.
+-- `card_edges::are_rising` meets its contract. The invariant: the edges from byte i on say what all edges say.
 use mathlib.Core.Path.{_≡_, refl, sym, _∙_}
 use Prim.Native.Nat.{_-_, _%_, _+_, _≤_, _<_}
 use native.Mathlib.Omega.{arith}
@@ -6,8 +6,8 @@ use lib.ListN.{length, drop}
 use Rattle.calls.specs.Card.{edgeAt, risingTriples?}
 use Rattle.calls.proofs.Card.{triples-other, triples-low, triples-more, triples-done}
 use borrow.Author.Needs.{needs}
-use Rattle.card_reading.proofs.are_rising.Statement.{statement}
-use Rattle.card_reading.proofs.are_rising.Tie as tie
+use Rattle.card_edges.proofs.are_rising.Statement.{statement}
+use Rattle.card_edges.proofs.are_rising.Tie as tie
 
 abbrev Inv-loop : tie.InvT-loop
 Inv-loop vertices body prev₀ i₀ prev i = (i ≤ length body) × (i % 3 ≡ 0) × (risingTriples? vertices prev (drop i body) ≡ risingTriples? vertices 0 body)

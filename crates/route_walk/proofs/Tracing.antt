@@ -8,7 +8,7 @@ use lib.ListN.{length, set, drop, length-set}
 use lib.Seq.{getD-set-same, drop-cons, drop-set-lt}
 use Rattle.route_search.specs.Work.{queuedNumber, queuedAt, beforeAt, edgeInto}
 use Rattle.route_search.specs.Traced.{Chain, done, link}
-use Rattle.route.specs.Run.{Linked, CountsLinks, WritesWalk}
+use Rattle.route_walk.specs.Walk.{Linked, CountsLinks, WritesWalk}
 
 -- one link of it
 pub record Linking (w : List ℕ) (at : ℕ) (p : List ℕ) : Type 0 where

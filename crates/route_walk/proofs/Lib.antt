@@ -1,0 +1,2 @@
+pub mod Tracing
+pub mod Lighting
