@@ -15,7 +15,7 @@ const YES: u32 = 100;
 const SPENT: u32 = 101;
 
 // A reply stands above 32 bits for the levels, the edges of a route, or a middle.
-const UNIT: u64 = 1 << 32;
+pub const UNIT: u64 = 1 << 32;
 
 // The documents' number of a refusal.
 pub fn refusal_number(refusal: Refusal) -> u32

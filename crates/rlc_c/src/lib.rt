@@ -2,6 +2,7 @@
 // number. A record of another length gives 255, and nothing is touched.
 use model::Answer;
 use model::MOST_LABEL;
+use replies::UNIT;
 use store::Changed;
 use store::Header;
 use store::Written;
@@ -26,9 +27,6 @@ ghost use Rattle.rlc_c.specs.Interface.{headerIn, otherRecord, inC, Hand
 const RECORD: usize = 2 + MOST_LABEL;
 
 const OTHER_RECORD: u32 = 255;
-
-// A reply stands above 32 bits for the levels, the edges of a route, or a middle.
-const UNIT: u64 = 1 << 32;
 
 // The record that ten words hold.
 fn header_in(words: &[u32]) -> Header
