@@ -1,4 +1,6 @@
 // The answer to a query from the entries of an index: an owner's list as a part of the index, and the joining of two lists.
+#![tactic(auto)]
+
 ghost use Rattle.std.specs.Prelude.{◌≡◌};
 ghost use Rattle.model.specs.Lists.{Rising, mem?};
 ghost use Rattle.model.specs.Computed.Lists.{Bracket};

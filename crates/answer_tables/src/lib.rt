@@ -1,4 +1,6 @@
 // The answers from one vertex, or to it, for all vertices at once: a table of marks, from the vertex's own list and the entries of the other side.
+#![tactic(auto)]
+
 ghost use Rattle.std.specs.Prelude.{◌≡◌, ◌<◌, length};
 ghost use Rattle.model.specs.Limits.{most_vertices};
 ghost use Rattle.model.specs.Tables.{Tabulates};

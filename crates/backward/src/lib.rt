@@ -1,5 +1,7 @@
 // The search backward (document 02, Five): which vertices have a walk to a destination that runs a pattern. It is a level search from the
 // destination, over the edges turned round, by the pattern from its end.
+#![tactic(auto)]
+
 ghost use Rattle.std.specs.Prelude.{◌≡◌, map, reverse, ◌≤◌, ◌<◌, length, take};
 ghost use Rattle.model.specs.Limits.{most_vertices, most_edges, least_work};
 ghost use Rattle.model.specs.Edges.{from_of};

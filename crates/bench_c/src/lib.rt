@@ -1,5 +1,7 @@
 // The boundary for the benchmark only (bench/): leaves under C names, with what they require, which the benchmark meets. This is not the
 // library's C interface.
+#![tactic(auto)]
+
 ghost use Rattle.std.specs.Prelude.{◌≡◌, length, replicate};
 ghost use Rattle.model.specs.Limits.{most_label};
 ghost use Rattle.calls.specs.Call.{lent};

@@ -1,5 +1,7 @@
 // Building the index of a graph. The vertices are numbered anew by their rank in an access order, so that earlier is lower; the entries
 // are staged in work memory, put back to vertices, and written to index memory in rising order.
+#![tactic(auto)]
+
 ghost use Rattle.std.specs.Prelude.{length};
 ghost use Rattle.build.specs.Build.{Buildable, Builds};
 ghost use Rattle.build.specs.Staging.{GraphStages};

@@ -1,4 +1,6 @@
 // The edges that a card's bytes name, three bytes each: from, label, to.
+#![tactic(auto)]
+
 ghost use Rattle.std.specs.Prelude.{◌≡◌, ◌+◌, ◌%◌, ◌<◌, length};
 ghost use Rattle.model.specs.Limits.{triple_bytes};
 ghost use Rattle.calls.specs.Card.{edge_at, edge_at?, rising_triples?};

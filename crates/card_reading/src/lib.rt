@@ -1,4 +1,6 @@
 // The layout card read: the checks of its bytes (14 15 2 16), and its edges put into edge memory.
+#![tactic(auto)]
+
 ghost use Rattle.std.specs.Prelude.{◌≡◌, ◌+◌, ◌≤◌, ◌<◌, length, drop};
 ghost use Rattle.model.specs.Limits.{head_bytes};
 ghost use Rattle.model.specs.Lists.{filled};

@@ -1,4 +1,6 @@
 // The layout card written: its checks (1 2 3 17), and its bytes.
+#![tactic(auto)]
+
 ghost use Rattle.std.specs.Prelude.{◌≡◌, [], ◌++◌, ◌+◌, ◌*◌, length, drop};
 ghost use Rattle.model.specs.Limits.{head_bytes, triple_bytes};
 ghost use Rattle.model.specs.Computed.Lists.{spread};

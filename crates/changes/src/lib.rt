@@ -1,5 +1,7 @@
 // The calls that change the layout, over plain numbers: opening, insertion (laying), removal (lifting) and card reading. Checks first,
 // which read only; then edge memory is saved, the wanted edges are written, and `settle` does the rest.
+#![tactic(auto)]
+
 ghost use Rattle.std.specs.Prelude.{[]};
 ghost use Rattle.model.specs.Replies.{answer_of};
 ghost use Rattle.calls.specs.Call.{lent, Meets};

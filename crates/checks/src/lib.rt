@@ -1,4 +1,6 @@
 // The checks that calls share: the record (1 and 2), then edge memory (3), room to build (4), ends (5 and 10), and a label (6).
+#![tactic(auto)]
+
 ghost use Rattle.std.specs.Prelude.{◌≡◌, ◌+◌, leb};
 ghost use Rattle.model.specs.Limits.{least_work};
 ghost use Rattle.model.specs.Replies.{answer_of};

@@ -1,4 +1,6 @@
 // The entries of the other starts, from the closed step rows.
+#![tactic(auto)]
+
 ghost use Rattle.model.specs.Build.Hubs.{Joined};
 ghost use Rattle.rows.specs.Rows.{StepsTo};
 ghost use Rattle.staging.specs.Stage.{Stages, Unpicked, Stageable, VertexStageable, RestEntry};

@@ -1,4 +1,6 @@
 // The closure of the step rows: afterwards row a has every vertex that one step or more led to from a.
+#![tactic(auto)]
+
 ghost use Rattle.std.specs.Prelude.{◌≤◌, ◌<◌, length};
 ghost use Rattle.model.specs.Limits.{most_vertices, least_work};
 ghost use Rattle.closure.specs.Closing.{Closable, Closes};

@@ -1,4 +1,6 @@
 // The test of a code: whether its digits are a pattern that is its own minimum repeat, for any number of digits.
+#![tactic(auto)]
+
 ghost use Rattle.std.specs.Prelude.{◌≡◌, not, ◌<◌};
 ghost use Rattle.model.specs.Limits.{code_digits, hub_unit};
 ghost use Rattle.model.specs.Computed.Patterns.{keyed?, own?};

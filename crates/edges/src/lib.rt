@@ -1,4 +1,6 @@
 // Edge memory: the numbers of edges, check 3, lookup, the slot where a vertex's edges start, insertion and removal.
+#![tactic(auto)]
+
 ghost use Rattle.std.specs.Prelude.{◌≡◌, ◌/◌, ◌≤◌, ◌<◌, length, take};
 ghost use Rattle.model.specs.Limits.{most_vertices, from_unit, label_unit};
 ghost use Rattle.model.specs.Lists.{Rising, filled};

@@ -1,4 +1,6 @@
 // One level of states from the one before, over work memory; a state is labels used * 256 + vertex.
+#![tactic(auto)]
+
 ghost use Rattle.std.specs.Prelude.{◌≡◌, ◌+◌, ◌*◌, ◌≤◌, ◌<◌, ◌^◌, length};
 ghost use Rattle.model.specs.Limits.{most_vertices, label_unit};
 ghost use Rattle.model.specs.Lists.{Rising};

@@ -1,4 +1,6 @@
 // The level search (plain check): level after level, the levels counted, and the call with its checks.
+#![tactic(auto)]
+
 ghost use Rattle.std.specs.Prelude.{◌≡◌, [], ◌≤◌, length};
 ghost use Rattle.model.specs.Limits.{least_work};
 ghost use Rattle.model.specs.Replies.{reply_of};

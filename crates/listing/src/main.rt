@@ -1,4 +1,6 @@
 // The listing program: takes the first 4,096 bytes of standard input as a card, and prints the layout's index, or the refusal.
+#![tactic(auto)]
+
 ghost use Rattle.std.specs.Prelude.{◌≤◌, length};
 ghost use Rattle.printing.specs.Puts.{Puts};
 ghost use Rattle.listing.specs.Listing.{printed};

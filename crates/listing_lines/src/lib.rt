@@ -1,5 +1,7 @@
 // The lines of the listing: its header, and one for each entry. Each function writes from `at` on, leaves all other bytes as they were, and returns
 // where its text ends.
+#![tactic(auto)]
+
 ghost use Rattle.std.specs.Prelude.{◌+◌, ◌*◌, ◌^◌, ◌≤◌, ◌<◌, length};
 ghost use Rattle.model.specs.Computed.Lists.{spread};
 ghost use Rattle.printing.specs.Puts.{Puts};

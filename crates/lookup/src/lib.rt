@@ -1,4 +1,6 @@
 // The minimum repeat looked up in a constant table (document 02, One): for every slice of bytes what the recursion of `patterns` computes.
+#![tactic(auto)]
+
 mod constant;
 
 ghost use Rattle.std.specs.Prelude.{◌≡◌, true, ◌-◌, ◌≤◌, ◌<◌, T, length, get_or};

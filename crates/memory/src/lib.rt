@@ -1,4 +1,6 @@
 // Lent memory as plain numbers, for both widths: zeroing, the test for zeros, how many numbers stand, and copies from one width to the other.
+#![tactic(auto)]
+
 ghost use Rattle.std.specs.Prelude.{◌≡◌, ◌++◌, ◌≤◌, length, take, drop};
 ghost use Rattle.model.specs.Lists.{zeroed};
 ghost use Rattle.model.specs.Edges.{standing};

@@ -1,5 +1,7 @@
 // The vertex between two patterns (document 02, Five): a table of the vertices that the first pattern leads to and one of those from which the second
 // leads home, and the lowest vertex that stands in both.
+#![tactic(auto)]
+
 ghost use Rattle.std.specs.Prelude.{◌≡◌, false, ◌&&◌, ◌≤◌, length, get_or};
 ghost use Rattle.model.specs.Limits.{most_vertices, least_work};
 ghost use Rattle.model.specs.Lists.{keep, up_to};

@@ -222,7 +222,7 @@ pub record Index (l : List ℕ) (x : ℕ) : Type 0 where
   pub inside : i < length l
   pub is : get_or l i 0 ≡ x
 
-pub in_get_d : {l : List ℕ} {x : ℕ} → Memᴰ x l → Index l x
+pub in_get_d : {x : ℕ} {l : List ℕ} → Memᴰ x l → Index l x
 in_get_d (Memᴰ.head e) = record { i = 0; inside = omega arith; is = sym e }
 in_get_d (Memᴰ.tail m) = let k = in_get_d m in record { i = suc k.i; inside = omega (arith, k.inside); is = k.is }
 

@@ -88,7 +88,7 @@ module _ {vertices : ℕ} (small : vertices ≤ most_vertices) where
     spells_back h (edge {c = c} {w = w} e p) =
         rw (reverse-cons c w) (join (spells_back (labelled_tail h) p) (edge (edge_back (h.labels c (Memᴰ.head refl)) e) here))
 
-    runs_back : {s t : ℕ} {l : List ℕ} → Labelled l → Runs (bare vertices edges) l s t → Runs (bare vertices back) (reverse l) t s
+    runs_back : {l : List ℕ} {s t : ℕ} → Labelled l → Runs (bare vertices edges) l s t → Runs (bare vertices back) (reverse l) t s
     runs_back h (once p) = once (spells_back h p)
     runs_back h (more p q) = runs_trans (runs_back h q) (once (spells_back h p))
 

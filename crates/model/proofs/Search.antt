@@ -13,7 +13,7 @@ use Rattle.model.specs.Limits.{most_vertices, most_longest, enough_levels}
 use Rattle.model.specs.Lists.{◌∈◌, mem?, empty?}
 use Rattle.model.specs.Edges.{Graph}
 use Rattle.model.specs.Walks.{Runs}
-use Rattle.model.specs.States.{state, Reply, Yes, No, Spent}
+use Rattle.model.specs.States.{state, Reply, Yes, No, Spent, Refused}
 use Rattle.model.specs.Computed.Levels.{states, leads?, led?, Stage, grow, stage, level, reply_at, reply_from, level_reply, is_yes?, runs?}
 use Rattle.model.specs.Levels.{Quiet, Told, found, ended, stopped, Decides}
 use Rattle.model.proofs.Tests.{Tests, test_true, test_false, test_agree, test_dec, test_T, test_mem}
@@ -106,6 +106,7 @@ module _ (g : Graph) (l : List ℕ) (s t : ℕ) where
         go (Yes c) h = Decides.runs c (told_yes h)
         go (No c) h = Decides.runs_not c (told_no h)
         go (Spent c) h = absurd (omega (arith, told_spent h))
+        go (Refused _) h = elim h [ ]
 
 module _ (g : Graph) (l : List ℕ) (small : g.vertices ≤ most_vertices) (full : 1 ≤ length l) (s t : ℕ) (hs : s < g.vertices) (ht : t < g.vertices) where
   -- with an allowance of more levels than there are states
@@ -116,6 +117,7 @@ module _ (g : Graph) (l : List ℕ) (small : g.vertices ≤ most_vertices) (full
       go (Yes c) h = record { yields = λ _. told_yes g l s t small full hs ht h; passes = λ _. tt }
       go (No c) h = record { yields = λ x. absurd x; passes = λ r. told_no g l s t small full hs ht h r }
       go (Spent c) h = absurd (omega (arith, told_spent g l s t h))
+      go (Refused _) h = elim h [ ]
 
   pub test_runs : Tests (runs? g l s t) (Runs g l s t)
   unfolding runs?

@@ -37,7 +37,7 @@ module _ {g : Graph} {l : List ℕ} where
   pub spells_runs : {s t : ℕ} (j : ℕ) → Spells g s (times (suc j) l) t → Runs g l s t
   unfolding times
   spells_runs zero p = once (rw append-nil at p)
-  spells_runs (suc j) p = let (m, q, r) = cut l p in more q (spells_runs j r)
+  spells_runs {s = s} {t = t} (suc j) p = let (m, q, r) = cut l p in more q (spells_runs {s = m} j r)
 
   pub runs_trans : {s m t : ℕ} → Runs g l s m → Runs g l m t → Runs g l s t
   runs_trans (once p) q = more p q

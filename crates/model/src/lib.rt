@@ -1,5 +1,6 @@
 // The model: what documents 01 and 02 say, as definitions (specs/) and laws (proofs/). The code is the numbers that they fix and the enums
 // that replies are made of, and no function.
+#![tactic(auto)]
 
 // The numbers, each named once; specs/Limits.antt has them under the same names. A crate that wants one in another width takes it from here.
 

@@ -1,5 +1,7 @@
 // The checks of an insertion (laying) and a removal (lifting): record, memory and the named edge, in document 01's order. They read only, and
 // find the slot of the named edge.
+#![tactic(auto)]
+
 ghost use Rattle.calls.specs.Call.{lent};
 ghost use Rattle.named.specs.Named.{Changes, LooksUp, Inserts, Removes};
 

@@ -1,4 +1,6 @@
 // From staged entries to index memory: owners and hubs put back from ranks to vertices, rising order, and zeros behind.
+#![tactic(auto)]
+
 ghost use Rattle.std.specs.Prelude.{◌≡◌, map, ◌<◌, length};
 ghost use Rattle.model.specs.Computed.Query.{side_of, owner_of, hub_of};
 ghost use Rattle.model.specs.Build.Renumber.{translate};

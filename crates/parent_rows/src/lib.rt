@@ -1,4 +1,6 @@
 // Where a word leads from each vertex, label by label from its end.
+#![tactic(auto)]
+
 ghost use Rattle.model.specs.Limits.{most_vertices};
 ghost use Rattle.rows.specs.Region.{parent_rows};
 ghost use Rattle.steps.specs.Filling.{Clears, Prependable, Prepends};

@@ -1,5 +1,7 @@
 // The entries of one pattern: its step rows are filled; starts whose walks are one step are staged from them as they are, the others once the
 // rows are closed; then the rows are emptied.
+#![tactic(auto)]
+
 ghost use Rattle.single_starts.specs.Single.{SinglesStageable};
 ghost use Rattle.pattern_entries.specs.Pattern.{PatternStageable, PatternStages, LedEntry, StepsStaged};
 

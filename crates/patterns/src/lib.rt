@@ -1,4 +1,6 @@
 // Patterns: check 11, the minimum repeat, and the code of a pattern.
+#![tactic(auto)]
+
 ghost use Rattle.std.specs.Prelude.{◌≡◌, ◌≤◌, length};
 ghost use Rattle.model.specs.Limits.{most_longest};
 ghost use Rattle.model.specs.Patterns.{code, Keyed};

@@ -1,5 +1,7 @@
 // What the lines that programs print are made of, as bytes in lent memory: words, numbers, counts; and the lines that several print. Each function
 // writes from `at` on, leaves all other bytes as they were, and returns where its text ends.
+#![tactic(auto)]
+
 ghost use Rattle.std.specs.Prelude.{◌+◌, ◌≤◌, ◌<◌, ◌++◌, ◌∷◌, [], length};
 ghost use Rattle.model.specs.Limits.{digit_unit};
 ghost use Rattle.printing.specs.Puts.{Puts};

@@ -1,5 +1,7 @@
 // The query's call: past its checks and the rule of totals, the question put to the entries that stand, or for a pattern that repeats itself a
 // search.
+#![tactic(auto)]
+
 ghost use Rattle.std.specs.Prelude.{◌≡◌, List, ℕ};
 ghost use Rattle.model.specs.Replies.{answered_of};
 ghost use Rattle.calls.specs.Call.{lent, Meets};

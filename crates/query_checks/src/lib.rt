@@ -1,5 +1,7 @@
 // The checks of calls that name two vertices and a pattern, or two patterns: those before all memory (1 2 10 11), those of the plain check and the
 // route (1 2 3 4 10 11), and the rule of totals.
+#![tactic(auto)]
+
 ghost use Rattle.std.specs.Prelude.{◌≡◌, []};
 ghost use Rattle.model.specs.Limits.{most_longest};
 ghost use Rattle.model.specs.Patterns.{Keyed};

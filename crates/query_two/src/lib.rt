@@ -1,5 +1,7 @@
 // Out by one pattern, home by another (document 02, Five): past the checks of two queries, the lowest vertex that the first pattern leads to and from
 // which the second leads home.
+#![tactic(auto)]
+
 ghost use Rattle.std.specs.Prelude.{◌≡◌, true, false, List, ℕ};
 ghost use Rattle.model.specs.Replies.{two_answered_of};
 ghost use Rattle.calls.specs.Call.{lent, Meets};

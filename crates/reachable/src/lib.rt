@@ -1,4 +1,6 @@
 // To which vertices a walk from one vertex runs a pattern: all levels, and the marks that they leave.
+#![tactic(auto)]
+
 ghost use Rattle.std.specs.Prelude.{◌≤◌, length, get_or, eqb};
 ghost use Rattle.model.specs.Limits.{most_vertices, least_work};
 ghost use Rattle.model.specs.Tables.{Tabulates};

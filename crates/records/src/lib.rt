@@ -1,4 +1,6 @@
 // The record as ten numbers in memory, as the C interface hands it back.
+#![tactic(auto)]
+
 ghost use Rattle.std.specs.Prelude.{◌≡◌, ◌∷◌, ◌++◌, length, take};
 ghost use Rattle.records.specs.Record.{record_numbers};
 

@@ -1,5 +1,7 @@
 // The table of document 02, One, printed from its definition: the length of the minimum repeat of each pattern of one to four labels, shorter
 // patterns first and then by code, one number a line.
+#![tactic(auto)]
+
 ghost use Rattle.std.specs.Prelude.{◌≡◌, [], ◌+◌, ◌*◌, ◌^◌, ◌≤◌, ◌<◌, length, get_or};
 ghost use Rattle.model.specs.Limits.{most_label, table_longest, table_size};
 ghost use Rattle.model.specs.Computed.Lists.{spread};

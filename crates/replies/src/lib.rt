@@ -1,4 +1,6 @@
 // Replies and refusals as numbers, as the C interface tells them.
+#![tactic(auto)]
+
 ghost use Rattle.std.specs.Prelude.{◌≡◌, ◌*◌};
 ghost use Rattle.model.specs.Replies.{answered_of, answer_of, number_of, reply_of, routed_of, two_answered_of};
 ghost use Rattle.replies.specs.InC.{reply_unit, answered_in_c, replied_in_c, routed_in_c, two_answered_in_c};

@@ -1,5 +1,7 @@
 // The C interface (include/rlc.h): each function is one public call of `store`, with the record as ten numbers in memory and the reply as a
 // number. A record of another length gives 255, and nothing is touched.
+#![tactic(auto)]
+
 ghost use Rattle.std.specs.Prelude.{◌≡◌, ◌*◌, [], length};
 ghost use Rattle.model.specs.Computed.Patterns.{folded_length, times_written, Folds};
 ghost use Rattle.calls.specs.Call.{lent, lent_out, Meets};

@@ -1,4 +1,6 @@
 // The route to light (document 02, Three): the search and the walk that it gives, and the call with its checks.
+#![tactic(auto)]
+
 ghost use Rattle.std.specs.Prelude.{◌≤◌, length};
 ghost use Rattle.model.specs.Limits.{least_work};
 ghost use Rattle.model.specs.Replies.{routed_of};

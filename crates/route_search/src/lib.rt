@@ -1,6 +1,8 @@
 // The search for the route to light (document 02, Three): over the level search's states, keeping for each state the first walk to it. Nodes (a
 // state and how it was reached) are taken in the order in which they were queued, and the edges of a node in rising order, so a state is first
 // reached by the walk that comes first.
+#![tactic(auto)]
+
 ghost use Rattle.std.specs.Prelude.{◌≡◌, ◌+◌, ◌≤◌, ◌<◌, ◌^◌, length, get_or};
 ghost use Rattle.model.specs.Limits.{label_unit, least_work};
 ghost use Rattle.model.specs.Lists.{zeroed};

@@ -1,4 +1,6 @@
 // The walk that the search for a route has found: from its last state back to the start, counted, and written to walk memory.
+#![tactic(auto)]
+
 ghost use Rattle.std.specs.Prelude.{◌≤◌, length};
 ghost use Rattle.route_walk.specs.Walk.{Linked, CountsLinks, WritesWalk, LightsAt};
 

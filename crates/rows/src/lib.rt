@@ -1,4 +1,6 @@
 // Sets of vertices as rows of bits in work memory: row r is the ROW numbers from r * ROW on, and bit j of it says whether vertex j is in it.
+#![tactic(auto)]
+
 ghost use Rattle.std.specs.Prelude.{◌≡◌, ◌⊎◌, ◌≤◌, ◌<◌};
 ghost use Rattle.model.specs.Limits.{most_vertices};
 ghost use Rattle.rows.specs.Rows.{cell, On, Has, Becomes, NextVertex, FirstInBoth};

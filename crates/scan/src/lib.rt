@@ -1,4 +1,6 @@
 // Index memory: check 12, in one pass that also finds how many entries stand.
+#![tactic(auto)]
+
 ghost use Rattle.std.specs.Prelude.{◌≡◌, ◌≤◌, ◌<◌, length};
 ghost use Rattle.model.specs.Limits.{hub_unit};
 ghost use Rattle.scan.specs.Memory.{extent_of};

@@ -1,5 +1,7 @@
 // What insertion, removal and card reading have in common: edge memory is saved; once the wanted edges are written, their index is built, or
 // memory restored if the entries do not fit (13). Work memory ends zero.
+#![tactic(auto)]
+
 ghost use Rattle.std.specs.Prelude.{◌+◌, ◌≤◌, length};
 ghost use Rattle.rows.specs.Region.{saved_numbers};
 ghost use Rattle.settle.specs.Indexing.{Indexable, Indexes};

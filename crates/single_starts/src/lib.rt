@@ -1,4 +1,6 @@
 // The entries of the starts whose walks are one step: a pattern's steps as they are, if no second step follows them.
+#![tactic(auto)]
+
 ghost use Rattle.std.specs.Prelude.{◌<◌};
 ghost use Rattle.model.specs.Build.Hubs.{Direct};
 ghost use Rattle.rows.specs.Region.{row_numbers};

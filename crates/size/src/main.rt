@@ -1,5 +1,7 @@
 // The program size: takes the first 4,096 bytes of standard input as a card, and prints how many entries the layout needs and the bytes of index
 // and work memory for them, or the refusal.
+#![tactic(auto)]
+
 ghost use Rattle.std.specs.Prelude.{◌≤◌, length};
 ghost use Rattle.printing.specs.Puts.{Puts};
 ghost use Rattle.sizing.specs.Sizing.{line_room};

@@ -1,5 +1,7 @@
 // The lines of the program size: what a layout needs, or that it needs more than the program has. Each function writes from `at` on, leaves all
 // other bytes as they were, and returns where its text ends.
+#![tactic(auto)]
+
 ghost use Rattle.std.specs.Prelude.{◌+◌, ◌^◌, ◌≤◌, ◌<◌, length};
 ghost use Rattle.model.specs.Limits.{least_work};
 ghost use Rattle.printing.specs.Puts.{Puts};

@@ -1,5 +1,7 @@
 // What a card's layout needs, as a line: how many entries, and the bytes of index and work memory for them, or the refusal; found by reading the card
 // into lent memory.
+#![tactic(auto)]
+
 ghost use Rattle.std.specs.Prelude.{◌≤◌, length};
 ghost use Rattle.calls.specs.Call.{lent};
 ghost use Rattle.printing.specs.Puts.{Puts};

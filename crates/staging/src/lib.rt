@@ -1,4 +1,6 @@
 // Staging: the entry for a walk, and what it is to stage entries (specs/).
+#![tactic(auto)]
+
 ghost use Rattle.std.specs.Prelude.{◌≡◌, ◌<◌};
 ghost use Rattle.model.specs.Limits.{most_vertices, hub_unit};
 ghost use Rattle.model.specs.Entries.{entry_of};

@@ -1,4 +1,6 @@
 // From edges to rows: which edges of a list end in a row, and where they lead.
+#![tactic(auto)]
+
 ghost use Rattle.std.specs.Prelude.{◌≡◌, ◌+◌, ◌-◌, ◌≤◌, ◌<◌, length};
 ghost use Rattle.model.specs.Limits.{most_vertices, most_label, least_work};
 ghost use Rattle.edges.specs.Grouped.{section, Grouped};

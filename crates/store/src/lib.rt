@@ -1,5 +1,7 @@
 // The store as firmware sees it: every call of documents 01 and 02, for all inputs. Opening, insertion (laying) and removal (lifting) are operations
 // of the header (record): each takes it and hands it back with the answer, and if it is accepted with totals counted anew.
+#![tactic(auto)]
+
 ghost use Rattle.std.specs.Prelude.{◌≡◌, [], ◌≤◌, length};
 ghost use Rattle.model.specs.Limits.{most_edges};
 ghost use Rattle.model.specs.Replies.{answered_of, answer_of, reply_of, routed_of, two_answered_of};

@@ -1,5 +1,7 @@
 // All patterns, by their suffixes: a recursion that goes on only if some walk spells the labels chosen so far. At each word the parent's
 // rows say where it leads, the entries with one label before it are staged, and then those with more.
+#![tactic(auto)]
+
 ghost use Rattle.std.specs.Prelude.{◌≡◌, ◌<◌};
 ghost use Rattle.model.specs.Limits.{most_label, most_longest};
 ghost use Rattle.model.specs.Patterns.{Keyed};

@@ -1,5 +1,7 @@
 // Table II of paper 004 out of `build`: the graph of Fig. 2 there with the paper's own access order, v1 v3 v2 v4 v5 v6, and one line for
 // each entry in slot order.
+#![tactic(auto)]
+
 ghost use Rattle.std.specs.Prelude.{◌≤◌, length};
 ghost use Rattle.model.specs.Computed.Lists.{spread};
 ghost use Rattle.worked_examples.specs.Trials.{table_ii};

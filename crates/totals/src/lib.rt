@@ -1,4 +1,6 @@
 // The totals of the record: how many of the standing edges have each label (document 02, Four).
+#![tactic(auto)]
+
 ghost use Rattle.std.specs.Prelude.{◌≡◌, ◌≤◌, length};
 ghost use Rattle.model.specs.Limits.{most_edges};
 ghost use Rattle.model.specs.Edges.{label_of, standing, totals_of};

@@ -1,6 +1,8 @@
 // Traces: what a program has seen that calls `store` again and again on one station (specs/), and that every trace is the ledger's (proofs/),
 // from nothing but what `store` promises of each call. The functions here only call `store`: their contracts, proved from `store`'s own, say
 // that each changing call is a step of a trace, whatever header was kept before an opening or a card reading.
+#![tactic(auto)]
+
 ghost use Rattle.std.specs.Prelude.{[]};
 ghost use Rattle.model.specs.Lists.{Bytes};
 ghost use Rattle.store.specs.declared.Header.{Header as Kept};

@@ -1,6 +1,8 @@
 // The unstarred trial runs of document 01 and document 02's of a pattern keyed twice, of routes, of totals and of two patterns, through the public
 // calls: a line for each, with 0 if it is accepted or for a no, 100 for a yes, or the number of the refusal; of a route the number of its legs and a
 // line for each leg; of a record its places, and a line for k and for each total; of two patterns a line for the place between.
+#![tactic(auto)]
+
 use model::{MOST_LABEL, RouteReply, TwoReply};
 use store::{Changed, Header};
 

@@ -1,0 +1,13 @@
+-- `memory::all_zero_u64` meets its contract. The invariant: the slots from i on are zero iff all are.
+use mathlib.Core.Path.{◌≡◌, refl}
+use Prim.Native.Nat.{◌-◌}
+use lib.ListN.{length, drop}
+use Rattle.model.specs.Computed.Edges.{zeros?}
+use Rattle.memory.proofs.Reading.{zeros_stop, zeros_more, zeros_end}
+use Rattle.memory.proofs.all_zero_u64.Given as goal
+
+abbrev pub invariant-loop-i : goal.invariant-loop-i
+invariant-loop-i l = zeros? (drop l.i l.slots) ≡ zeros? l.slots
+
+abbrev pub decreases-loop-i : goal.decreases-loop-i
+decreases-loop-i l = length l.slots - l.i
