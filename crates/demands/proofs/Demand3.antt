@@ -76,6 +76,8 @@ begun s c begins = on c.given begins
     on : (given : Given) → Begins given → (ruling blank (fed_by (length s.edges) (length s.index) (made given))).number ≡ 0
         → Matches (length s.edges) (length s.index) s given (change_on s c.work given) (turn blank (fed_by (length s.edges) (length s.index) (made given)))
     on (opening vertices longest totals) _ e = open_begins (record { size = record { vertices = vertices; longest = longest }; totals = totals }) c.work s refl refl blank e
+    on (insertion from label to) b e = elim b [ ]
+    on (removal from label to) b e = elim b [ ]
     on (card bytes small) _ e = read_begins bytes small c.work s refl refl blank e
 
 -- the number of a turn
@@ -95,6 +97,8 @@ first_number s c begins = on c.given begins ∙ turn_number blank (fed_by (lengt
         → (change_on s c.work given).reply.answer ≡ (turn blank (fed_by (length s.edges) (length s.index) (record { given = given; work = c.work }))).reply.number
     on (opening vertices longest totals) _ =
         ap (λ (x : LedgerReply). x.number) (open_first (record { size = record { vertices = vertices; longest = longest }; totals = totals }) c.work s refl refl blank)
+    on (insertion from label to) b = elim b [ ]
+    on (removal from label to) b = elim b [ ]
     on (card bytes small) _ = ap (λ (x : LedgerReply). x.number) (read_first bytes small c.work s refl refl blank)
 
 -- ---- no entry can be spared
