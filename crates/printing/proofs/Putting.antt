@@ -8,11 +8,11 @@ use native.Mathlib.Omega.{arith}
 use borrow.Author.Tests.{lt-ltb, le-ltb}
 use lib.Dec.{ltb}
 use lib.ListN.{length, take, drop, get_or, set, length-append, take-append-drop}
-use lib.Seq.{length-take-le, take-length, take_all, take_at, drop_at, drop-drop, set_split, take-suc}
+use lib.Seq.{length-take-le, take_all, take_at, drop_at, drop-drop, set_split, take-suc}
 use Rattle.model.specs.Limits.{most_longest, digit_unit, side_unit, least_work}
 use Rattle.model.specs.Computed.Lists.{spread}
 use Rattle.model.specs.Computed.Query.{owner_of, hub_of, code_of}
-use Rattle.model.proofs.Lists.{spread_append, part_all, part_last}
+use Rattle.model.proofs.Lists.{spread_append}
 use Rattle.printing.specs.Puts.{Puts}
 use Rattle.printing.specs.Lines.{numeral, number, labels, space, newline, out_word, in_word, side_line, entry_line, places_word, longest_word, legs_word, entries_word, counts, header_line, number_line, refused_word, refused_line, listing, index_word, work_word, bytes_end, bytes_of, size_line, over_word, entries_end, over_line}
 
@@ -27,14 +27,16 @@ puts_none out at = record { end = omega arith; bytes = sym (take-append-drop at 
 pub puts_byte : (out : List ℕ) (at x : ℕ) → at < length out → Puts out at (x ∷ []) (set out at x) (at + 1)
 puts_byte out at x h = record { end = refl; bytes = set_split out at x h ∙ (rw add-one) }
 
--- a text copied into the part from `at` on
-pub puts_copied : (out text part : List ℕ) (at r : ℕ) → at + length text ≤ length out → r ≡ length text
-    → part ≡ take (length text) text ++ drop (length text) (take (length out - at) (drop at out))
-    → Puts out at text (take at out ++ (part ++ drop (length out - at) (drop at out))) (at + r)
-puts_copied out text part at r fits e p = record { end = omega arith; bytes = part_last out part at ∙ ap (λ (l : List ℕ). take at out ++ l) part_is }
+-- a text copied into the part from `at` to its end
+pub puts_copied : (out text part : List ℕ) (at : ℕ) → part ≡ text
+    → Puts out at text (take at out ++ (part ++ drop ((at + length text) - at) (drop at out))) (at + length text)
+puts_copied out text part at e = record { end = refl; bytes = ap (λ (l : List ℕ). take at out ++ l) part_is }
   where
-    part_is : part ≡ text ++ drop (at + r) out
-    part_is = p ∙ rw (take-length text, part_all out at, e, drop-drop (length text) at out)
+    n : (at + length text) - at ≡ length text
+    n = omega arith
+
+    part_is : part ++ drop ((at + length text) - at) (drop at out) ≡ text ++ drop (at + length text) out
+    part_is = rw (e, n, drop-drop (length text) at out) refl
 
 -- text after text
 pub puts_then : {out s out₁ t out₂ : List ℕ} {at a b : ℕ} → at ≤ length out → Puts out at s out₁ a → Puts out₁ a t out₂ b → Puts out at (s ++ t) out₂ b
