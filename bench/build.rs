@@ -1,4 +1,4 @@
-// Links the proved libraries, which `rt staticlib` writes: `bench` the leaves, the other programs the C interface.
+// Links the proved libraries, which `tools/staticlib` leaves in target/staticlib: `bench` the leaves, the other programs the C interface.
 fn main() {
     let folder = format!("{}/../target/staticlib", std::env::var("CARGO_MANIFEST_DIR").unwrap());
     let interface = ["calls", "routes", "two_patterns", "lacking", "lending"].map(|program| (program, "rlc_c"));

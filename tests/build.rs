@@ -1,4 +1,4 @@
-// Links the library under test, which `rt staticlib rlc_c` leaves in target/staticlib/.
+// Links the library under test, which `tools/staticlib rlc_c` leaves in target/staticlib/.
 fn main() {
     let folder = format!("{}/../target/staticlib", std::env::var("CARGO_MANIFEST_DIR").unwrap());
     println!("cargo:rustc-link-search=native={folder}");

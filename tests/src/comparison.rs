@@ -51,7 +51,7 @@ use std::time::Instant;
 const SEED: u64 = 1;
 const ROUNDS: u64 = 600;
 
-/// The programs, as `rt check` leaves them in the repository.
+/// The programs, as `tools/program` leaves them in the repository.
 const LISTING: &str = "target/bin/listing";
 const SIZE: &str = "target/bin/size";
 const REPEAT_TABLE: &str = "target/bin/repeat_table";
