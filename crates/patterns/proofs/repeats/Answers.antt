@@ -1,10 +1,7 @@
 use native.Mathlib.Omega.{arith}
 use Rattle.model.proofs.Lists.{below_more}
-use Rattle.patterns.proofs.Lengths.{repeats_part, repeats_other, repeats_all}
+use Rattle.patterns.proofs.Lengths.{repeats_other}
 use Rattle.patterns.proofs.repeats.Goals as goal
-
-pub returns-then-pattern-d-ne0 : goal.returns-then-pattern-d-ne0
-returns-then-pattern-d-ne0 c = repeats_part _ _ c.requires c.if-pattern-d-ne0.true
 
 pub loop-i-init : goal.loop-i-init
 loop-i-init c = (omega arith, record { at = λ j h k. absurd (omega arith) })
@@ -15,6 +12,3 @@ returns-then-pattern-i c =
 
 pub loop-i-preserved : goal.loop-i-preserved
 loop-i-preserved c = (omega arith, below_more c.loop-i.invariant.1 (λ _. c.if-pattern-i.false))
-
-pub returns : goal.returns
-returns c = repeats_all _ _ c.requires c.if-pattern-d-ne0.false c.loop-i-test.false c.loop-i.invariant.1
