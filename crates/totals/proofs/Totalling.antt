@@ -9,6 +9,7 @@ use lib.Dec.{eqb}
 use lib.ListN.{length, get_or, set, drop, replicate, length-set, length-replicate, get_or-replicate, drop_of_length-le}
 use lib.Seq.{drop-cons, get_or-set_other}
 use borrow.Author.Tests.{eq-eqb, ne_eqb}
+use Rattle.std.proofs.lemmas.Bool.{cases_lt}
 use Rattle.model.specs.Limits.{most_edges, most_label}
 use Rattle.model.specs.Lists.{from}
 use Rattle.model.specs.Edges.{label_of, standing, total_of, totals_of}
@@ -48,6 +49,10 @@ module _ (edges : List ℕ) (i : ℕ) where
   pub standing_none : length edges ≤ i → standing (drop i edges) ≡ []
   unfolding standing
   standing_none h = rw (drop_of_length-le edges h)
+
+  -- so none stands from slot i on if no edge does there
+  pub standing_ended : (i < length edges → get_or edges i 0 ≡ 0) → standing (drop i edges) ≡ []
+  standing_ended f = ⊎_elim (λ h. standing_zero h (f h)) (λ h. standing_none h) (cases_lt i (length edges))
 
 -- ---- an edge more
 

@@ -4,9 +4,9 @@ use Prim.Native.Nat.{◌+◌}
 use native.Mathlib.Omega.{arith}
 use lib.ListN.{get_or, drop}
 use Rattle.model.specs.Edges.{label_of, standing}
-use Rattle.totals.proofs.Totalling.{raise, Totalled, totalled_none, first_more, two_more, totalled_all, first_small, second_small, standing_zero, standing_none}
+use Rattle.totals.proofs.Totalling.{raise, Totalled, totalled_none, first_more, two_more, totalled_all, first_small, second_small, standing_zero, standing_none, standing_ended}
 use Rattle.totals.proofs.count_labels.Goals as goal
-use Rattle.totals.proofs.count_labels.Goals.{else-loop-i-test, then-loop-i-test+then-edges-i-eq0, then-loop-i-test+else-edges-i-eq0+then-edges-i-eq0-2, After-label_of-in-loop-i, Then-edges-i-ne0}
+use Rattle.totals.proofs.count_labels.Goals.{Then-edges-i-ne0}
 
 pub loop-i-init : goal.loop-i-init
 loop-i-init c = totalled_none _
@@ -27,13 +27,6 @@ overflow_add-counts c =
 pub bounds-counts-label_of-in-loop-i : goal.bounds-counts-label_of-in-loop-i
 bounds-counts-label_of-in-loop-i c = omega (arith, c.label_of.ensures)
 
--- the first of two edges is counted
-counted : (c : After-label_of-in-loop-i) →
-    let edges = c.args.edges.now in
-    Totalled edges (raise c.loop-i.counts (label_of (get_or edges c.loop-i.i 0))) (c.loop-i.i + 1)
-counted c =
-    first_more c.loop-i.invariant (omega (arith, c.loop-i-test.true)) c.if-edges-i-eq0-2.false
-
 pub overflow_add-counts-in-loop-i : goal.overflow_add-counts-in-loop-i
 overflow_add-counts-in-loop-i c = omega (arith, c.label_of-in-loop-i.ensures)
 
@@ -46,7 +39,7 @@ bounds-counts-label_of-in-loop-i-2 c = omega (arith, c.label_of-in-loop-i.ensure
 pub overflow_add-counts-in-loop-i-2 : goal.overflow_add-counts-in-loop-i-2
 overflow_add-counts-in-loop-i-2 c =
     rw (c.label_of.ensures, c.label_of-in-loop-i.ensures)
-    (omega (arith, second_small (counted (goal.at.overflow_add-counts-in-loop-i-2 c).After-label_of-in-loop-i) c.requires (get_or c.args.edges.now (c.loop-i.i + 1) 0)))
+    (omega (arith, second_small (first_more c.loop-i.invariant (omega arith) (λ e. omega arith)) c.requires (get_or c.args.edges.now (c.loop-i.i + 1) 0)))
 
 pub bounds-counts-label_of-in-loop-i-3 : goal.bounds-counts-label_of-in-loop-i-3
 bounds-counts-label_of-in-loop-i-3 c = omega (arith, c.label_of-in-loop-i.ensures)
@@ -54,8 +47,7 @@ bounds-counts-label_of-in-loop-i-3 c = omega (arith, c.label_of-in-loop-i.ensure
 pub loop-i-preserved : goal.loop-i-preserved
 loop-i-preserved c =
     rw (c.label_of.ensures, c.label_of-in-loop-i.ensures)
-    (two_more c.loop-i.invariant c.loop-i-test.true
-    c.if-edges-i-eq0-2.false c.if-edges-i-eq0.false)
+    (two_more c.loop-i.invariant c.loop-i-test.true (λ e. omega arith) (λ e. omega arith))
 
 pub offset_bounds-counts-label_of-then-edges-i-ne0 : goal.offset_bounds-counts-label_of-then-edges-i-ne0
 offset_bounds-counts-label_of-then-edges-i-ne0 c = omega (arith, c.label_of-then-edges-i-ne0.ensures)
@@ -73,12 +65,7 @@ bounds-counts-label_of-then-edges-i-ne0-2 c = omega (arith, c.label_of-then-edge
 -- if an edge stands at the slot where the loop is left, it is the last
 last : (c : Then-edges-i-ne0) →
     standing (drop (c.loop-i.i + 1) c.args.edges.now) ≡ []
-last c =
-    elim c.loop-i-test.branch [
-      | else-loop-i-test w ↦ standing_none _ _ w.loop-i-test.false
-      | then-loop-i-test+then-edges-i-eq0 w ↦ standing_zero _ _ w.loop-i-test.true w.if-edges-i-eq0.true
-      | then-loop-i-test+else-edges-i-eq0+then-edges-i-eq0-2 w ↦ absurd (c.if-edges-i-ne0.true w.if-edges-i-eq0-2.true)
-    ]
+last c = standing_ended c.args.edges.now (c.loop-i.i + 1) (λ h. grind (arith, c.loop-i-test.branch))
 
 pub returns-then-edges-i-ne0 : goal.returns-then-edges-i-ne0
 returns-then-edges-i-ne0 c =
