@@ -12,6 +12,7 @@ ghost use Rattle.printing.specs.Lines.{number_line};
 ghost use Rattle.repeat_table.specs.Lengths.{lengths, LinesFit};
 
 use model::TABLE_SIZE;
+use std::io;
 
 const LABELS: usize = model::MOST_LABEL;
 
@@ -71,8 +72,8 @@ fn table(out: &mut [u8]) -> usize
     put_lengths(out, c, &mut four, 4096)
 }
 
-fn main() {
+fn main(rt: HostRuntime) -> io::Result<()> {
     let mut out = [0u8; ROOM];
     let end = table(&mut out);
-    io::write_all(libc::STDOUT_FILENO, &out[..end]);
+    rt.stdout().write_all(&out[..end])
 }
