@@ -1,5 +1,5 @@
 -- The test of a code: its digits one by one from the last, and whether they are fewer digits, written twice or more.
-use mathlib.Core.Path.{◌≡◌, refl, sym, ap, ◌∙◌}
+use mathlib.Core.Path.{◌≡◌, refl, sym, ap, subst, ◌∙◌}
 use mathlib.Core.Bool.{Bool, true, false, ◌&&◌, and-true, and-false, and_assoc}
 use mathlib.Core.List.Memᴰ
 use mathlib.Core.List.{List, [], ◌∷◌, ◌++◌}
@@ -132,7 +132,9 @@ module _ {d : ℕ} (n : ℕ) (w : List ℕ) (long : length w ≡ d) where
 
   written_times : code (times (suc (suc n)) w) ≡ written (digit_unit ^ d) (code w) (code w) (suc n)
   unfolding written
-  written_times = code_times (suc (suc n)) 0 w ∙ rw (long, zero-mul (digit_unit ^ d), zero-add (code w)) refl
+  written_times =
+      code_times (suc (suc n)) 0 w
+      ∙ rw (zero-mul (digit_unit ^ length w), zero-add (code w)) (ap (λ (m : ℕ). written (digit_unit ^ m) (code w) (code w) (suc n)) long)
 
 -- a code spelled by labels, and its last d digits
 module _ (c d : ℕ) (s : Spelled c) where
@@ -171,12 +173,12 @@ module _ (c d : ℕ) (s : Spelled c) where
           n = r.n;
           long = long;
           is = code_one (omega (arith, r.fits, size_times r.n w long)) s.keyed.short (λ x m. labels x (times_in (suc (suc r.n)) m)) s.keyed.labels
-              (written_times r.n w long ∙ rw last at r.is ∙ sym spelled);
+              (written_times r.n w long ∙ subst (λ (m : ℕ). written unit m m (suc r.n) ≡ c) last r.is ∙ sym spelled);
         }
     | no h ↦
         let one : 1 ≤ unit = one-le-pow d digit_unit (omega arith) in
         let below : c < unit = omega (arith, code_short l s.keyed.labels, spelled, pow-le-pow_right {n = digit_unit} (omega arith) {i = length l} {j = d} (omega arith)) in
-        let again : written unit c (c * unit + c) r.n ≡ c = rw (mod-eq_of_lt below) at r.is in
+        let again : written unit c (c * unit + c) r.n ≡ c = subst (λ (m : ℕ). written unit m m (suc r.n) ≡ c) (mod-eq_of_lt below) r.is in
         absurd (omega (arith, again, written_more unit c (c * unit + c) r.n one, le-mul_of_pos_right c one, some))
   ]
 
