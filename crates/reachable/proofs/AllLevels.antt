@@ -2,7 +2,7 @@
 use mathlib.Core.Path.{◌∙◌}
 use mathlib.Core.Bool.{Bool, false}
 use mathlib.Core.List.{List}
-use Prim.Native.Nat.{ℕ, suc, ◌+◌, ◌≤◌, ◌<◌}
+use Prim.Native.Nat.{ℕ, zero, suc, ◌+◌, ◌≤◌, ◌<◌}
 use native.Mathlib.Omega.{arith}
 use native.Mathlib.Decide.{ℕ_discrete}
 use lib.ListN.{length, get_or, set}
@@ -44,6 +44,7 @@ module _ (vertices : ℕ) (edges l : List ℕ) (s : ℕ) where
       met_runs t h m = go m.at m.first m.stands
         where
           go : (i : ℕ) → 1 ≤ i → t ∈ level (bare vertices edges) l s i → Runs (bare vertices edges) l s t
+          go zero a k = absurd (omega arith)
           go (suc i) a k = level_runs (bare vertices edges) l s p.vertices_small p.short.least p.start i t h k
 
       test_mark : (t : ℕ) → t < vertices → Tests (eqb (get_or w t 0) 1) (Runs (bare vertices edges) l s t)
