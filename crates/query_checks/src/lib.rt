@@ -82,6 +82,7 @@ pub fn check_two(
 }
 
 // Whether a label of the pattern has total 0 in the record (document 02, Four).
+#[tactic(auto, using(crate::proofs::Lacking::lacking_here, crate::proofs::Lacking::lacking_next))]
 pub fn is_lacking(totals: [u32; MOST_LABEL], pattern: &[u8]) -> bool
     requires { Keyed most_longest pattern.now }
     ensures { result ≡ lacking? totals pattern.now }

@@ -6,7 +6,7 @@ use lib.ListN.{length, get_or}
 use Rattle.model.specs.Limits.{most_label, most_longest}
 use Rattle.model.specs.Patterns.{Keyed}
 use Rattle.model.proofs.Lists.{get_d_in}
-use Rattle.query_checks.proofs.Lacking.{lacking_here, lacking_next, lacking_none}
+use Rattle.query_checks.proofs.Lacking.{lacking_none}
 use Rattle.query_checks.proofs.is_lacking.Goals as goal
 
 -- the label at i is one
@@ -24,14 +24,6 @@ offset_bounds-totals-pattern c = omega (arith, label c.args.pattern.now c.loop-i
 
 pub bounds-totals-pattern : goal.bounds-totals-pattern
 bounds-totals-pattern c = omega (arith, label c.args.pattern.now c.loop-i.i c.requires c.loop-i-test.true)
-
-pub returns-then-totals-pattern-eq0 : goal.returns-then-totals-pattern-eq0
-returns-then-totals-pattern-eq0 c =
-    sym (lacking_here _ _ _ c.loop-i-test.true c.if-totals-pattern-eq0.true) ∙ c.loop-i.invariant
-
-pub loop-i-preserved : goal.loop-i-preserved
-loop-i-preserved c =
-    sym (lacking_next _ _ _ c.loop-i-test.true c.if-totals-pattern-eq0.false) ∙ c.loop-i.invariant
 
 pub returns : goal.returns
 returns c = sym (lacking_none _ _ _ c.loop-i-test.false) ∙ c.loop-i.invariant
