@@ -23,9 +23,6 @@ pub expand-n-requires : goal.expand-n-requires
 expand-n-requires c =
     (c.first_slots-slots.ensures, record { vertices = c.args.vertices; s = c.args.s; t = c.args.t; able = c.requires.searchable; paused = c.loop-k.invariant.0; more = c.loop-k-test.true })
 
-pub returns-then-place-ne0 : goal.returns-then-place-ne0
-returns-then-place-ne0 c = paused_found c.requires.searchable (c.expand-n.ensures.goes c.requires.searchable c.loop-k.invariant.0) c.if-place-ne0.true
-
 pub returns : goal.returns
 returns c = paused_none c.requires.searchable c.loop-k.invariant.0 c.loop-k-test.false c.loop-k.invariant.1.0
 
@@ -47,14 +44,14 @@ offset_bounds-work-t c = omega (arith, inside (goal.at.offset_bounds-work-t c).S
 pub bounds-work-t : goal.bounds-work-t
 bounds-work-t c = omega (arith, inside (goal.at.bounds-work-t c).Start, (c.expand-n.ensures.goes c.requires.searchable c.loop-k.invariant.0).holds.long)
 
-pub shape_of-work-then-place-ne0 : goal.shape_of-work-then-place-ne0
-shape_of-work-then-place-ne0 c = c.expand-n.auto.work ∙ c.loop-k.invariant.1.1 ∙ simp length-set
-
 pub loop-k-smaller : goal.loop-k-smaller
 loop-k-smaller c = omega (arith, counted (goal.at.loop-k-smaller c).In-loop-k)
 
 pub loop-k-preserved : goal.loop-k-preserved
-loop-k-preserved c = ((c.expand-n.ensures.goes c.requires.searchable c.loop-k.invariant.0), (c.if-place-ne0.false, c.expand-n.auto.work ∙ c.loop-k.invariant.1.1))
+loop-k-preserved c = ((c.expand-n.ensures.goes c.requires.searchable c.loop-k.invariant.0), (omega arith, c.expand-n.auto.work ∙ c.loop-k.invariant.1.1))
 
 pub shape_of-work : goal.shape_of-work
 shape_of-work c = c.loop-k.invariant.1.1 ∙ simp length-set
+
+pub returns-then-place-ne0 : goal.returns-then-place-ne0
+returns-then-place-ne0 c = paused_found c.requires.searchable (c.expand-n.ensures.goes c.requires.searchable c.loop-k.invariant.0) c.if-place-ne0.true
