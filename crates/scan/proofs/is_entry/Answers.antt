@@ -1,0 +1,32 @@
+-- `scan::is_entry` meets its contract: each return is the outcome of the tests before it.
+use mathlib.Core.Path.{◌≡◌, sym, ◌∙◌}
+use mathlib.Core.Bool.{Bool}
+use native.Mathlib.Omega.{arith}
+use Rattle.model.specs.Computed.Query.{code_of, code?, entry?}
+use Rattle.scan.proofs.Fields.{seen_more, no_entry, code_entry}
+use Rattle.scan.proofs.is_entry.Goals as goal
+use Rattle.scan.proofs.is_entry.Goals.{After-is_code}
+
+-- the other fields are right
+coded : (c : After-is_code) {b : Bool} → code? c.args.longest (code_of c.args.x) ≡ b
+    → entry? c.args.vertices c.args.longest c.args.x ≡ b
+coded c e = code_entry _ _ _ c.if-x-ge2.false c.if-vertices-x.false c.if-vertices-x-2.false e
+
+pub returns-then-x-ge2 : goal.returns-then-x-ge2
+returns-then-x-ge2 c = record { is = sym (no_entry _ _ _ (λ v. omega (arith, v.side, c.if-x-ge2.true))); seen = c.requires }
+
+pub returns-then-vertices-x : goal.returns-then-vertices-x
+returns-then-vertices-x c = record { is = sym (no_entry _ _ _ (λ v. omega (arith, v.owner, c.if-vertices-x.true))); seen = c.requires }
+
+pub returns-then-vertices-x-2 : goal.returns-then-vertices-x-2
+returns-then-vertices-x-2 c = record { is = sym (no_entry _ _ _ (λ v. omega (arith, v.hub, c.if-vertices-x-2.true))); seen = c.requires }
+
+pub returns-then-is_code : goal.returns-then-is_code
+returns-then-is_code c =
+    let q = sym c.is_code.ensures ∙ c.if-is_code.true in
+    record { is = sym (coded (goal.at.returns-then-is_code c).After-is_code q); seen = rw c.slot-at.ensures (seen_more (code_of c.args.x) c.requires q) }
+
+pub returns : goal.returns
+returns c =
+    let q = sym c.is_code.ensures ∙ c.if-is_code.false in
+    record { is = sym (coded (goal.at.returns c).After-is_code q); seen = c.requires }
