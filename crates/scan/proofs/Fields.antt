@@ -13,7 +13,7 @@ use Rattle.model.specs.Limits.{hub_unit, owner_unit, side_unit}
 use Rattle.model.specs.Computed.Query.{side_of, owner_of, hub_of, code_of, code?, entry?}
 use Rattle.model.proofs.Tests.{test_false, test_yields}
 use Rattle.model.proofs.IndexMemory.{Valid, test_entry}
-use Rattle.scan.specs.Scan.{slots, slot_of, Seen, FieldEnd, Within, HubsBelow}
+use Rattle.scan.specs.Scan.{slots, slot_of, Seen, Examines, FieldEnd, Within, HubsBelow}
 
 -- a number of the empty table
 zeros : (k : ℕ) → get_or {A = ℕ} (replicate slots 0) k 0 ≡ 0
@@ -50,6 +50,10 @@ seen_more {longest} {seen} code m h = record {
 -- a number with a wrong field is no entry
 pub no_entry : (vertices longest x : ℕ) → ¬ Valid vertices longest x → entry? vertices longest x ≡ false
 no_entry vertices longest x n = test_false (test_entry vertices longest x) n
+
+-- nor is one with another side
+pub no_side : {vertices longest x : ℕ} {seen : List ℕ} → 2 ≤ side_of x → Seen longest seen → Examines vertices longest x seen false
+no_side {vertices} {longest} {x} h s = record { is = sym (no_entry vertices longest x (λ v. omega (arith, v.side, h))); seen = s }
 
 -- a number whose other fields are right is an entry if its code is one
 pub code_entry : (vertices longest x : ℕ) {b : Bool} → side_of x < 2 → owner_of x < vertices → hub_of x < vertices → code? longest (code_of x) ≡ b

@@ -35,6 +35,7 @@ fn slot(code: u64) -> usize
 }
 
 // Whether x is an entry of the graph. If it is, its code is kept in `seen`, which spares the next with that code the test.
+#[tactic(auto, using(crate::proofs::Fields::no_side))]
 fn is_entry(vertices: u32, longest: u32, x: u64, seen: &mut [Kept; SLOTS]) -> bool
     requires { Seen longest seen.old }
     ensures { Examines vertices longest x seen.new result }

@@ -10,10 +10,7 @@ use Rattle.scan.proofs.is_entry.Goals.{After-is_code}
 -- the other fields are right
 coded : (c : After-is_code) {b : Bool} → code? c.args.longest (code_of c.args.x) ≡ b
     → entry? c.args.vertices c.args.longest c.args.x ≡ b
-coded c e = code_entry _ _ _ c.if-x-ge2.false c.if-vertices-x.false c.if-vertices-x-2.false e
-
-pub returns-then-x-ge2 : goal.returns-then-x-ge2
-returns-then-x-ge2 c = record { is = sym (no_entry _ _ _ (λ v. omega (arith, v.side, c.if-x-ge2.true))); seen = c.requires }
+coded c e = code_entry _ _ _ (omega arith) c.if-vertices-x.false c.if-vertices-x-2.false e
 
 pub returns-then-vertices-x : goal.returns-then-vertices-x
 returns-then-vertices-x c = record { is = sym (no_entry _ _ _ (λ v. omega (arith, v.owner, c.if-vertices-x.true))); seen = c.requires }
