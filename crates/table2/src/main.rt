@@ -9,6 +9,7 @@ ghost use Rattle.printing.specs.Puts.{Puts};
 ghost use Rattle.printing.specs.Lines.{entry_line};
 
 use build::Built;
+use std::io;
 
 // Builds the index and writes its lines, which are those of Table II. Returns where they end.
 fn table(out: &mut [u8]) -> usize
@@ -29,8 +30,8 @@ fn table(out: &mut [u8]) -> usize
     listing_lines::put_entries(out, 0, &index[..n])
 }
 
-fn main() {
+fn main(rt: HostRuntime) -> io::Result<()> {
     let mut out = [0u8; 1024];
     let n = table(&mut out);
-    io::write_all(libc::STDOUT_FILENO, &out[..n]);
+    rt.stdout().write_all(&out[..n])
 }
