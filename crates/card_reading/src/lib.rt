@@ -16,6 +16,7 @@ pub enum Checked {
     Refused(Refusal),
 }
 
+#[tactic(auto, using(calls::proofs::Card::marked_short))]
 fn is_marked(card: &[u8]) -> bool
     ensures { result ≡ marked? card.now }
 {
@@ -54,6 +55,7 @@ fn has_edges(card: &[u8]) -> bool
 }
 
 // The checks of the card alone, in their order: 14 15 2 16.
+#[tactic(auto, using(crate::proofs::Checking::version_stops))]
 pub fn check(card: &[u8]) -> Checked
     ensures { CardChecks card.now result }
 {

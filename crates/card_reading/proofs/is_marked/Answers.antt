@@ -1,20 +1,18 @@
 -- `card_reading::is_marked` meets its contract.
 use mathlib.Core.Path.{sym, ◌∙◌}
+use native.Mathlib.Omega.{arith}
 use borrow.Author.Tests.{eq-eqb, ne_eqb}
-use Rattle.calls.proofs.Card.{and_pass, and_stop, marked_short, marked_at}
+use Rattle.calls.proofs.Card.{and_pass, and_stop, marked_at}
 use Rattle.card_reading.proofs.is_marked.Goals as goal
-
-pub returns-then-card-lt-HEAD_BYTES : goal.returns-then-card-lt-HEAD_BYTES
-returns-then-card-lt-HEAD_BYTES c = sym (marked_short c.args.card.now c.if-card-lt-HEAD_BYTES.true)
 
 pub returns-then-card-ne80 : goal.returns-then-card-ne80
 returns-then-card-ne80 c =
-    sym (marked_at c.args.card.now c.if-card-lt-HEAD_BYTES.false ∙ and_stop _ (ne_eqb _ 80 c.if-card-ne80.true))
+    sym (marked_at c.args.card.now (omega arith) ∙ and_stop _ (ne_eqb _ 80 c.if-card-ne80.true))
 
 pub returns-then-card-ne82 : goal.returns-then-card-ne82
 returns-then-card-ne82 c =
-    sym (marked_at c.args.card.now c.if-card-lt-HEAD_BYTES.false ∙ and_pass (eq-eqb _ 80 c.if-card-ne80.false) ∙ and_stop _ (ne_eqb _ 82 c.if-card-ne82.true))
+    sym (marked_at c.args.card.now (omega arith) ∙ and_pass (eq-eqb _ 80 c.if-card-ne80.false) ∙ and_stop _ (ne_eqb _ 82 c.if-card-ne82.true))
 
 pub returns : goal.returns
 returns c =
-    sym (marked_at c.args.card.now c.if-card-lt-HEAD_BYTES.false ∙ and_pass (eq-eqb _ 80 c.if-card-ne80.false) ∙ and_pass (eq-eqb _ 82 c.if-card-ne82.false))
+    sym (marked_at c.args.card.now (omega arith) ∙ and_pass (eq-eqb _ 80 c.if-card-ne80.false) ∙ and_pass (eq-eqb _ 82 c.if-card-ne82.false))
