@@ -3,8 +3,8 @@ use mathlib.Core.List.{[]}
 use Prim.Native.Nat.{◌+◌}
 use native.Mathlib.Omega.{arith}
 use lib.ListN.{get_or, drop}
-use Rattle.model.specs.Edges.{label_of, standing}
-use Rattle.totals.proofs.Totalling.{raise, Totalled, totalled_none, first_more, two_more, totalled_all, first_small, second_small, standing_zero, standing_none, standing_ended}
+use Rattle.model.specs.Edges.{standing}
+use Rattle.totals.proofs.Totalling.{totalled_none, first_more, two_more, totalled_all, first_small, second_small, standing_zero, standing_none, standing_ended}
 use Rattle.totals.proofs.count_labels.Goals as goal
 use Rattle.totals.proofs.count_labels.Goals.{Then-edges-i-ne0}
 
