@@ -1,13 +1,19 @@
 -- The numbers below n looked at one after another: the lowest that passes a test, from v on.
 use mathlib.Core.Path.{◌≡◌, refl}
-use mathlib.Core.Bool.{Bool, true, false}
+use mathlib.Core.Bool.{Bool, true, false, ◌&&◌}
+use mathlib.Core.List.{List}
 use Prim.Native.Nat.{ℕ, suc, ◌+◌, ◌-◌, ◌≤◌, ◌<◌}
 use native.Mathlib.Nat.{sub-zero}
 use native.Mathlib.Numerals.{add-one}
 use native.Mathlib.Omega.{arith}
+use lib.ListN.{get_or}
 use Rattle.model.specs.Lists.{keep, from, up_to}
 use Rattle.model.specs.Middles.{TwoAnswered, Yes, No}
 use Rattle.calls.specs.QueryTwo.{lowest}
+
+-- v is marked in both tables
+abbrev pub both : List Bool → List Bool → ℕ → Bool
+both out home v = get_or out v false && get_or home v false
 
 module _ (f : ℕ → Bool) (n : ℕ) where
   -- the lowest from v on
