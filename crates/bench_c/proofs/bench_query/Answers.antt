@@ -5,26 +5,18 @@ use Rattle.model.specs.Query.{Answered}
 use Rattle.model.specs.declared.QueryReply.{QueryReply}
 use Rattle.calls.specs.Call.{Memory, Outcome, Meets}
 use Rattle.bench_c.specs.Bench.{answer_number, QueriesNumber}
-use borrow.Author.Rules.{rules}
-use Rattle.bench_c.proofs.bench_query.Statement.{statement}
-use Rattle.bench_c.proofs.bench_query.Tie as tie
+use Rattle.bench_c.proofs.bench_query.Goals as goal
 
 -- the number of the reply that was told, and work memory as the query left it
 told : {call : Outcome Answered} {reply : QueryReply} {m : Memory} (r : QueryReply) → reply ≡ r → Meets call (answered_of reply) m
     → QueriesNumber call (answer_number (answered_of r)) m.work
 told r e q = record { reply_is = ap answer_number (ap answered_of (sym e) ∙ q.reply_is); work_after = q.work_after }
 
-pub bench_query_spec : {M : Type 1} → statement M
-bench_query_spec =
-    tie.close
-    (tie.spec
-    (λ c κs. search rules)
-    (λ c. search rules)
-    (λ c. search rules)
-    (λ c. search rules)
-    (λ c. search rules)
-    (λ c. told _ c.enum_told.given.1 c.before.before.before.before.query.ensures)
-    (λ c. search rules)
-    (λ c. told _ c.enum-told2.given.1 c.before.before.before.before.query.ensures)
-    (λ c. search rules)
-    (λ c. told _ c.enum-told3.given.1 c.before.before.before.before.query.ensures))
+pub returns-in-No : goal.returns-in-No
+returns-in-No c = told _ c.in-No.is c.query-reply.ensures
+
+pub returns-in-Yes : goal.returns-in-Yes
+returns-in-Yes c = told _ c.in-Yes.is c.query-reply.ensures
+
+pub returns-in-Refused : goal.returns-in-Refused
+returns-in-Refused c = told _ c.in-Refused.is c.query-reply.ensures
