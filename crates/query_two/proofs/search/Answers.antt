@@ -1,0 +1,46 @@
+-- `query_two::search` meets its contract: 12, 3, 4, or what both patterns tell.
+use mathlib.Core.Path.{sym, ◌∙◌}
+use borrow.Author.Tests.{lt-leb}
+use lib.Seq.{length-take-le}
+use Rattle.model.specs.declared.Refusal.TheVariants.{EdgeMemory, WorkMemory, IndexMemory}
+use Rattle.edges.proofs.Memory.{scans, scans_none as no-edge-memory}
+use Rattle.calls.proofs.Checks.{pass, stop}
+use Rattle.scan.proofs.Scanning.{scans_none, entered}
+use Rattle.query_two.proofs.Call.{refused_two, first_puttable, second_puttable, full_repeating}
+use Rattle.query_two.proofs.search.Goals as goal
+
+pub returns-in_default : goal.returns-in_default
+returns-in_default c =
+    refused_two _ _ _ _ _ c.requires.second_value IndexMemory
+    (stop (scans_none _ _ _ (sym c.scan-scanned.ensures ∙ c.in_default.is)))
+
+pub returns-in_default-standing : goal.returns-in_default-standing
+returns-in_default-standing c =
+    refused_two _ _ _ _ _ c.requires.second_value EdgeMemory
+    (pass (entered _ _ _ (sym c.scan-scanned.ensures ∙ c.in-Entries.is)).memory (stop (rw c.requires.second_value_2 (no-edge-memory _ _ (sym c.scan-standing.ensures ∙ c.in_default-standing.is)))))
+
+pub returns-then-work-lt-LEAST_WORK : goal.returns-then-work-lt-LEAST_WORK
+returns-then-work-lt-LEAST_WORK c =
+    refused_two _ _ _ _ _ c.requires.second_value WorkMemory
+    (pass (entered _ _ _ (sym c.scan-scanned.ensures ∙ c.in-Entries.is)).memory (pass (rw c.requires.second_value_2 (scans _ _ (sym c.scan-standing.ensures ∙ c.in-Edges.is)).memory) (stop (rw c.requires.second_value_2 (lt-leb _ _ c.if-work-lt-LEAST_WORK.true)))))
+
+pub slice_bounds-meet-end : goal.slice_bounds-meet-end
+slice_bounds-meet-end c =
+    sym (length-take-le _ c.args.edges.now (scans _ _ (sym c.scan-standing.ensures ∙ c.in-Edges.is)).within)
+
+pub slice_bounds-meet-end-2 : goal.slice_bounds-meet-end-2
+slice_bounds-meet-end-2 c =
+    sym (length-take-le _ c.args.index.now (entered _ _ _ (sym c.scan-scanned.ensures ∙ c.in-Entries.is)).within)
+
+pub meet-requires : goal.meet-requires
+meet-requires c =
+    let stand = entered _ _ _ (sym c.scan-scanned.ensures ∙ c.in-Entries.is) in
+    let edges = scans _ _ (sym c.scan-standing.ensures ∙ c.in-Edges.is) in
+    record {
+      puttable = (first_puttable _ _ _ _ _ c.requires.second_value stand edges, second_puttable _ _ _ _ _ c.requires.second_value stand edges);
+      least_work_in_bounds = c.if-work-lt-LEAST_WORK.false;
+    }
+
+pub returns : goal.returns
+returns c =
+    full_repeating _ _ _ _ _ c.requires.second_value (entered _ _ _ (sym c.scan-scanned.ensures ∙ c.in-Entries.is)) (scans _ _ (sym c.scan-standing.ensures ∙ c.in-Edges.is)) c.requires.second_value_2 c.if-work-lt-LEAST_WORK.false c.meet.ensures
