@@ -55,7 +55,7 @@ pub fn write(vertices: u32, longest: u32, edges: &[u32], output: &mut [u8])
 // The checks of a card that is written: 1 2 3 17.
 pub fn check_write(vertices: u32, longest: u32, edges: &[u32], output: &[u8]) -> Standing
     ensures { WriteChecks (record { vertices = vertices; longest = longest })
-        (record { edges = edges.entry.now; index = []; work = []; output = output.now }) result }
+        (record { edges = edges.now; index = []; work = []; output = output.now }) result }
 {
     let layout = checks::check_layout(vertices, longest, edges);
     let Standing::Edges(n) = layout else {
