@@ -24,7 +24,7 @@ use patterns::Folded;
 
 // "The record holds the number of places and k", and "gains eight totals, the legs of each colour" (document 02, Four): of labels 1 to 8. Only the
 // query looks at totals.
-#[derive(Drop)]
+#[derive(Clone, Copy)]
 pub struct Header {
     pub vertices: u32,
     pub longest: u32,

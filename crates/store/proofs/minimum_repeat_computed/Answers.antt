@@ -1,0 +1,6 @@
+-- `store::minimum_repeat_computed` meets its contract: the recursion gives the length, and a pattern begins with its minimum repeat.
+use Rattle.model.proofs.Patterns.{folds}
+use Rattle.store.proofs.minimum_repeat_computed.Goals as goal
+
+pub returns : goal.returns
+returns c = folds c.minimum_repeat.ensures
