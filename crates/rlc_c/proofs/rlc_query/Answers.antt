@@ -1,0 +1,11 @@
+-- `rlc_c::rlc_query` meets its contract.
+use Rattle.replies.specs.InC.{answered_in_c}
+use Rattle.rlc_c.proofs.Handing.{other, ten, untouched, called}
+use Rattle.rlc_c.proofs.rlc_query.Goals as goal
+
+pub returns-then-words-ne-RECORD : goal.returns-then-words-ne-RECORD
+returns-then-words-ne-RECORD c = rw (other c.args.words.now c.if-words-ne-RECORD.true) untouched
+
+pub returns : goal.returns
+returns c =
+    rw (ten c.args.words.now c.if-words-ne-RECORD.false) (called answered_in_c (rw c.header_in-header.ensures at c.query-reply.ensures) c.query_number.ensures)
