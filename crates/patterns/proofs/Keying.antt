@@ -21,6 +21,9 @@ module _ (k : ℕ) (l : List ℕ) where
   pub keyed_not : ¬ Keyed k l → false ≡ keyed? k l
   keyed_not n = sym (test_false (test_keyed k l) n)
 
+  pub too_long : k < length l → false ≡ keyed? k l
+  too_long h = keyed_not (λ m. omega (arith, m.short))
+
   pub unlabelled : {i : ℕ} → i < length l → ¬ Labelled l i → false ≡ keyed? k l
   unlabelled {i} h n = keyed_not (λ p. n (p.labels (get_or l i 0) (get_d_in l i h)))
 

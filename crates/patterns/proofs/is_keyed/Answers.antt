@@ -6,9 +6,6 @@ use Rattle.patterns.proofs.is_keyed.Goals as goal
 pub returns-then-pattern-lt1 : goal.returns-then-pattern-lt1
 returns-then-pattern-lt1 c = keyed_not _ _ (λ k. omega (arith, k.long))
 
-pub returns-then-longest-pattern : goal.returns-then-longest-pattern
-returns-then-longest-pattern c = keyed_not _ _ (λ k. omega (arith, k.short))
-
 pub loop-i-init : goal.loop-i-init
 loop-i-init c = below_none
 
