@@ -1,5 +1,5 @@
 -- The query's checks in their order; then, from what they leave, the query on the entries or the search, and from what it finds the call's reply.
-use mathlib.Core.Path.{◌≡◌, refl, ap, ◌∙◌}
+use mathlib.Core.Path.{◌≡◌, refl, sym, ap, ◌∙◌}
 use mathlib.Core.Bool.{Bool, true, false, ◌||◌}
 use mathlib.Core.List.{List, [], ◌∷◌}
 use Prim.Native.Nat.{ℕ, ◌≤◌}
@@ -13,20 +13,21 @@ use Rattle.model.specs.Patterns.{Keyed}
 use Rattle.model.specs.Query.{Refused}
 use Rattle.model.specs.Replies.{number_of}
 use Rattle.model.specs.Computed.Edges.{edge_memory?}
-use Rattle.model.specs.Computed.Patterns.{once?}
+use Rattle.model.specs.Computed.Patterns.{times_written, once?}
 use Rattle.model.specs.Computed.Levels.{runs?}
 use Rattle.model.specs.Computed.Query.{index_memory?, answers?}
 use Rattle.model.specs.declared.Refusal.{Refusal}
 use Rattle.model.specs.declared.Refusal.TheVariants.{IndexMemory}
+use Rattle.model.proofs.Patterns.{count_more}
 use Rattle.model.proofs.Search.{runs_as}
 use Rattle.model.proofs.IndexMemory.{answers_alone}
 use Rattle.calls.specs.Checks.{Check, first_refusal}
-use Rattle.calls.specs.Call.{Size, graph_of, Memory, lent, Meets}
-use Rattle.calls.specs.Query.{saying, ask_checks, ask_refusal, full_refusal, by_index, by_search, full_call}
+use Rattle.calls.specs.Call.{Size, Header, graph_of, Memory, lent, Meets}
+use Rattle.calls.specs.Query.{saying, ask_checks, ask_refusal, full_refusal, by_index, by_search, lacking?, full_call, query_call}
 use Rattle.calls.proofs.Checks.{First, none, pass, stop, first_is}
 use Rattle.calls.proofs.Calls.{refused_meets, accepted_is}
 use Rattle.calls.proofs.Change.{pass_first}
-use Rattle.calls.proofs.Query.{Allowed, ask_leaves, within}
+use Rattle.calls.proofs.Query.{Allowed, ask_leaves, within, query_full}
 use Rattle.scan.specs.Memory.{extent_of}
 use Rattle.scan.specs.declared.Extent.TheVariants.{Entries}
 use Rattle.scan.proofs.Scanning.{Entered, entered}
@@ -58,6 +59,13 @@ module _ (h : Size) (start destination : ℕ) (pattern : List ℕ) (m : Memory) 
     pub is_searched : once? pattern ≡ false → full_call h start destination pattern m ≡ searched_call h start destination pattern m
     unfolding full_call searched_call first_refusal
     is_searched e = rw (refusal_is, e) refl
+
+-- past the rule of totals, for a pattern that was written any number of times but one
+pub searched_whole : (h : Header) (start destination : ℕ) (pattern : List ℕ) (m : Memory) → 0 ≡ ask_refusal h.size start destination pattern
+    → false ≡ lacking? h.totals pattern → ¬ (times_written pattern ≡ 1)
+    → query_call h start destination pattern m ≡ searched_call h.size start destination pattern m
+searched_whole h start destination pattern m a l t =
+    query_full h start destination pattern m (sym l) ∙ is_searched h.size start destination pattern m (sym a) (count_more pattern refl t)
 
 -- ---- a pattern that is written once
 

@@ -70,6 +70,7 @@ fn search(
 }
 
 // The query for all inputs. Check 12 is called in either part: called once, it would be compiled into the whole, and its loop be slower.
+#[tactic(auto, using(crate::proofs::Call::searched_whole))]
 pub fn query(
     vertices: u32,
     longest: u32,

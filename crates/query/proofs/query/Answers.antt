@@ -1,12 +1,13 @@
 -- `query::query` meets its contract: a label with total 0 is a no; else the index is asked by a pattern that is written once, and any other is searched.
 use mathlib.Core.Path.{◌≡◌, refl, sym, ap, ◌∙◌}
 use mathlib.Core.Bool.{false}
+use native.Mathlib.Omega.{arith}
 use Rattle.model.specs.Replies.{answer_of}
-use Rattle.model.proofs.Patterns.{count_once, count_more}
+use Rattle.model.proofs.Patterns.{count_once}
 use Rattle.calls.specs.Call.{Header, Memory, lent}
 use Rattle.calls.specs.Query.{ask_refusal, lacking?}
 use Rattle.calls.proofs.Query.{ask_leaves, within, query_refused, query_lacking, query_full}
-use Rattle.query.proofs.Call.{is_asked, is_searched}
+use Rattle.query.proofs.Call.{is_asked}
 use Rattle.query.proofs.query.Goals as goal
 use Rattle.query.proofs.query.Goals.{Else-is_lacking, In_default}
 
@@ -38,13 +39,9 @@ returns-then-is_lacking c =
 pub search-requires : goal.search-requires
 search-requires c = asked (goal.at.search-requires c).In_default
 
-pub returns-then-folded-ne1 : goal.returns-then-folded-ne1
-returns-then-folded-ne1 c =
-    rw (query_full (header (goal.at.returns-then-folded-ne1 c).In_default) _ _ _ (memory (goal.at.returns-then-folded-ne1 c).In_default) (whole (goal.at.returns-then-folded-ne1 c).Else-is_lacking) ∙ is_searched _ _ _ _ (memory (goal.at.returns-then-folded-ne1 c).In_default) (asked (goal.at.returns-then-folded-ne1 c).In_default) (count_more _ c.minimum_repeat-folded.ensures.1 c.if-folded-ne1.true)) c.search.ensures
-
 pub ask-requires : goal.ask-requires
 ask-requires c = asked (goal.at.ask-requires c).In_default
 
 pub returns : goal.returns
 returns c =
-    rw (query_full (header (goal.at.returns c).In_default) _ _ _ (memory (goal.at.returns c).In_default) (whole (goal.at.returns c).Else-is_lacking) ∙ is_asked _ _ _ _ (memory (goal.at.returns c).In_default) (asked (goal.at.returns c).In_default) (count_once _ c.minimum_repeat-folded.ensures.1 c.if-folded-ne1.false)) (c.ask.ensures _ _)
+    rw (query_full (header (goal.at.returns c).In_default) _ _ _ (memory (goal.at.returns c).In_default) (whole (goal.at.returns c).Else-is_lacking) ∙ is_asked _ _ _ _ (memory (goal.at.returns c).In_default) (asked (goal.at.returns c).In_default) (count_once _ c.minimum_repeat-folded.ensures.1 (omega arith))) (c.ask.ensures _ _)
