@@ -6,9 +6,13 @@ ghost use Rattle.printing.specs.Puts.{Puts};
 ghost use Rattle.listing.specs.Listing.{printed};
 
 use model::{Answer, LEAST_WORK, MOST_EDGES};
+use std::io;
 
 // "index memory 1,024 slots"
 const SLOTS: usize = 1024;
+
+// The bytes of standard input that are taken as a card, at most.
+const CARD_ROOM: usize = 4096;
 
 // A header line and a line for each slot.
 const ROOM: usize = 72 + 32 * SLOTS;
@@ -34,10 +38,10 @@ fn list(card: &[u8], out: &mut [u8]) -> usize
     }
 }
 
-fn main() {
-    let mut card = io::buffer();
-    let n = io::read_full(libc::STDIN_FILENO, &mut card);
+fn main(rt: HostRuntime) -> io::Result<()> {
+    let mut card = [0u8; CARD_ROOM];
+    let n = card_input::fill(&mut rt.stdin(), &mut card)?;
     let mut out = [0u8; ROOM];
     let end = list(&card[..n], &mut out);
-    io::write_all(libc::STDOUT_FILENO, &out[..end]);
+    rt.stdout().write_all(&out[..end])
 }

@@ -8,9 +8,13 @@ ghost use Rattle.sizing.specs.Sizing.{line_room};
 ghost use Rattle.size.specs.Sizing.{sized};
 
 use model::{LEAST_WORK, MOST_EDGES};
+use std::io;
 
 // Slots of index memory. It and work memory stand on the stack: 4.2 MB of the 8 MB that a program has. A layout that needs more is told so.
 const SLOTS: usize = 1 << 18;
+
+// The bytes of standard input that are taken as a card, at most.
+const CARD_ROOM: usize = 4096;
 
 // The longest line.
 const ROOM: usize = 117;
@@ -26,10 +30,10 @@ fn measure(card: &[u8], out: &mut [u8]) -> usize
     sizing::measure(card, &mut edges, &mut index, &mut work, out)
 }
 
-fn main() {
-    let mut card = io::buffer();
-    let n = io::read_full(libc::STDIN_FILENO, &mut card);
+fn main(rt: HostRuntime) -> io::Result<()> {
+    let mut card = [0u8; CARD_ROOM];
+    let n = card_input::fill(&mut rt.stdin(), &mut card)?;
     let mut out = [0u8; ROOM];
     let end = measure(&card[..n], &mut out);
-    io::write_all(libc::STDOUT_FILENO, &out[..end]);
+    rt.stdout().write_all(&out[..end])
 }
