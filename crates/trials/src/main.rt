@@ -4,15 +4,15 @@
 #![tactic(auto)]
 
 use model::{MOST_LABEL, RouteReply, TwoReply};
+use std::io;
 use store::{Changed, Header};
 
 // "Layout A is the card above."
 const CARD_A: [u8; 18] = [80, 82, 67, 0, 1, 2, 2, 0, 3, 0, 1, 1, 1, 1, 2, 1, 2, 0];
 
-fn say(text: &[u8], number: u32) {
-    io::write_all(libc::STDOUT_FILENO, text);
-    io::print_decimal(libc::STDOUT_FILENO, number as u64);
-    io::write_all(libc::STDOUT_FILENO, b"\n");
+fn say(rt: &impl Print, text: &[u8], number: u32) -> io::Result<()> {
+    rt.write_all(text)?;
+    println!(rt; "{number}")
 }
 
 // Reads card A into so many leg and index slots.
@@ -123,40 +123,44 @@ fn lay_in_a(from: u32, label: u32, to: u32) -> u32 {
 }
 
 // The routes of document 02, Three.
-fn say_routes() {
+fn say_routes(rt: &impl Print) -> io::Result<()> {
     let mut walk = [0u32; 2];
     say(
+        rt,
         b"route in A, 0 to 0 by 1 2: ",
         light_a(0, 0, b"\x01\x02", &mut walk),
-    );
-    say(b"  leg ", walk[0]);
-    say(b"  leg ", walk[1]);
+    )?;
+    say(rt, b"  leg ", walk[0])?;
+    say(rt, b"  leg ", walk[1])?;
     say(
+        rt,
         b"route in A, 0 to 2 by 1: ",
         light_a(0, 2, b"\x01", &mut walk),
-    );
-    say(b"  leg ", walk[0]);
-    say(b"  leg ", walk[1]);
+    )?;
+    say(rt, b"  leg ", walk[0])?;
+    say(rt, b"  leg ", walk[1])?;
     say(
+        rt,
         b"route in A, 2 to 0 by 1: ",
         light_a(2, 0, b"\x01", &mut walk),
-    );
+    )?;
     let mut short = [0u32; 1];
     say(
+        rt,
         b"route in A, 0 to 0 by 1 2, one slot: ",
         light_a(0, 0, b"\x01\x02", &mut short),
-    );
+    )
 }
 
 // A question by two patterns: 100 and a line for the place between, or 0 for a no, or the number of the refusal.
-fn say_two(text: &[u8], reply: TwoReply) {
+fn say_two(rt: &impl Print, text: &[u8], reply: TwoReply) -> io::Result<()> {
     match reply {
         TwoReply::Yes(middle) => {
-            say(text, 100);
-            say(b"  between ", middle)
+            say(rt, text, 100)?;
+            say(rt, b"  between ", middle)
         }
-        TwoReply::No => say(text, 0),
-        TwoReply::Refused(refusal) => say(text, replies::refusal_number(refusal)),
+        TwoReply::No => say(rt, text, 0),
+        TwoReply::Refused(refusal) => say(rt, text, replies::refusal_number(refusal)),
     }
 }
 
@@ -202,87 +206,104 @@ fn two_by_either(first: &[u8]) -> TwoReply {
 }
 
 // The questions of document 02, Five.
-fn say_two_patterns() {
+fn say_two_patterns(rt: &impl Print) -> io::Result<()> {
     say_two(
+        rt,
         b"A, 0 to 0 by 1, then 2: ",
         two_in_a(0, 0, b"\x01", b"\x02"),
-    );
+    )?;
     say_two(
+        rt,
         b"A, 0 to 2 by 1 2, then 1: ",
         two_in_a(0, 2, b"\x01\x02", b"\x01"),
-    );
+    )?;
     say_two(
+        rt,
         b"A, 0 to 0 by 1, then 1: ",
         two_in_a(0, 0, b"\x01", b"\x01"),
-    );
-    say_two(b"two ways, 0 to 3 by 1, then 2: ", two_by_either(b"\x01"));
+    )?;
     say_two(
+        rt,
+        b"two ways, 0 to 3 by 1, then 2: ",
+        two_by_either(b"\x01"),
+    )?;
+    say_two(
+        rt,
         b"two ways, 0 to 3 by 1 1, then 2: ",
         two_by_either(b"\x01\x01"),
-    );
+    )
 }
 
 // The record of layout A: "The record gains eight totals" (document 02, Four).
-fn say_record_a() {
+fn say_record_a(rt: &impl Print) -> io::Result<()> {
     let mut edges = [0u32; 3];
     let mut index = [0u64; 5];
     let header = layout_a(&mut edges, &mut index);
     let totals = header.totals;
-    say(b"record of A, places: ", header.vertices);
-    say(b"  k ", header.longest);
-    say(b"  label 1 ", totals[0]);
-    say(b"  label 2 ", totals[1]);
-    say(b"  label 3 ", totals[2]);
-    say(b"  label 4 ", totals[3]);
-    say(b"  label 5 ", totals[4]);
-    say(b"  label 6 ", totals[5]);
-    say(b"  label 7 ", totals[6]);
-    say(b"  label 8 ", totals[7]);
+    say(rt, b"record of A, places: ", header.vertices)?;
+    say(rt, b"  k ", header.longest)?;
+    say(rt, b"  label 1 ", totals[0])?;
+    say(rt, b"  label 2 ", totals[1])?;
+    say(rt, b"  label 3 ", totals[2])?;
+    say(rt, b"  label 4 ", totals[3])?;
+    say(rt, b"  label 5 ", totals[4])?;
+    say(rt, b"  label 6 ", totals[5])?;
+    say(rt, b"  label 7 ", totals[6])?;
+    say(rt, b"  label 8 ", totals[7])
 }
 
 // Card A into as many index slots as it needs, and one fewer.
-fn say_cards() {
+fn say_cards(rt: &impl Print) -> io::Result<()> {
     let mut edges = [0u32; 3];
     let mut five = [0u64; 5];
     let mut four = [0u64; 4];
-    say(b"card A, 5 index slots: ", read_a(&mut edges, &mut five));
-    say(b"card A, 4 index slots: ", read_a(&mut edges, &mut four));
+    say(
+        rt,
+        b"card A, 5 index slots: ",
+        read_a(&mut edges, &mut five),
+    )?;
+    say(
+        rt,
+        b"card A, 4 index slots: ",
+        read_a(&mut edges, &mut four),
+    )
 }
 
 // The most places and the longest pattern, and one more.
-fn say_openings() {
-    say(b"256 places: ", open(256, 4));
-    say(b"257 places: ", open(257, 4));
-    say(b"k 4: ", open(1, 4));
-    say(b"k 5: ", open(1, 5));
+fn say_openings(rt: &impl Print) -> io::Result<()> {
+    say(rt, b"256 places: ", open(256, 4))?;
+    say(rt, b"257 places: ", open(257, 4))?;
+    say(rt, b"k 4: ", open(1, 4))?;
+    say(rt, b"k 5: ", open(1, 5))
 }
 
 // Questions and a leg laid again on layout A, and a pattern keyed twice on a single leg.
-fn say_questions() {
-    say(b"A, 0 to 2 by 1: ", ask_a(0, 2, b"\x01"));
-    say(b"A, 0 to 3 by 1: ", ask_a(0, 3, b"\x01"));
-    say(b"A, 0 to 0 by 1 2 1: ", ask_a(0, 0, b"\x01\x02\x01"));
-    say(b"laying 0-1-1 in A: ", lay_in_a(0, 1, 1));
-    say(b"leg 0-1-1, 0 to 1 by 1 1: ", ask_one_leg(b"\x01\x01"));
-    say(b"leg 0-1-1, 0 to 1 by 1: ", ask_one_leg(b"\x01"));
+fn say_questions(rt: &impl Print) -> io::Result<()> {
+    say(rt, b"A, 0 to 2 by 1: ", ask_a(0, 2, b"\x01"))?;
+    say(rt, b"A, 0 to 3 by 1: ", ask_a(0, 3, b"\x01"))?;
+    say(rt, b"A, 0 to 0 by 1 2 1: ", ask_a(0, 0, b"\x01\x02\x01"))?;
+    say(rt, b"laying 0-1-1 in A: ", lay_in_a(0, 1, 1))?;
+    say(rt, b"leg 0-1-1, 0 to 1 by 1 1: ", ask_one_leg(b"\x01\x01"))?;
+    say(rt, b"leg 0-1-1, 0 to 1 by 1: ", ask_one_leg(b"\x01"))
 }
 
 // Questions with a colour that layout A lacks.
-fn say_lacking() {
-    say(b"A, 0 to 1 by 3: ", ask_a(0, 1, b"\x03"));
-    say(b"A, 0 to 1 by 3, damaged index: ", ask_damaged_a(0));
+fn say_lacking(rt: &impl Print) -> io::Result<()> {
+    say(rt, b"A, 0 to 1 by 3: ", ask_a(0, 1, b"\x03"))?;
+    say(rt, b"A, 0 to 1 by 3, damaged index: ", ask_damaged_a(0))?;
     say(
+        rt,
         b"A, 0 to 1 by 3, damaged index, total 1 told: ",
         ask_damaged_a(1),
-    );
+    )
 }
 
-fn main() {
-    say_cards();
-    say_openings();
-    say_questions();
-    say_routes();
-    say_record_a();
-    say_lacking();
-    say_two_patterns();
+fn main(rt: HostRuntime) -> io::Result<()> {
+    say_cards(&rt)?;
+    say_openings(&rt)?;
+    say_questions(&rt)?;
+    say_routes(&rt)?;
+    say_record_a(&rt)?;
+    say_lacking(&rt)?;
+    say_two_patterns(&rt)
 }
