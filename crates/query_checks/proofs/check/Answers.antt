@@ -10,6 +10,7 @@ pub returns-in-Refused : goal.returns-in-Refused
 unfolding ask_refusal
 returns-in-Refused c = sym (first_is (header_stop _ _ (sym c.check_header-header.ensures ∙ ap answer_of c.in-Refused.is) (number_some c.in-Refused.refusal)))
 
+-- the record has passed from here on
 pub returns-then-is_keyed : goal.returns-then-is_keyed
 unfolding ask_refusal
 returns-then-is_keyed c =

@@ -13,6 +13,7 @@ unfolding search_refusal
 returns-in_default c =
     rw c.in_default.is (layout_stop _ _ _ _ c.in_default.field-0 (rw c.in_default.is at c.check_layout-layout.ensures))
 
+-- the checks 1 2 3 have passed from here on
 pub returns-then-work-lt-LEAST_WORK : goal.returns-then-work-lt-LEAST_WORK
 unfolding search_refusal
 returns-then-work-lt-LEAST_WORK c = layout_pass (rw c.in-Edges.is at c.check_layout-layout.ensures) (stop (lt-leb _ _ c.if-work-lt-LEAST_WORK.true))

@@ -10,6 +10,7 @@ pub returns-in-Refused : goal.returns-in-Refused
 returns-in-Refused c =
     sym (two_stop _ _ _ _ _ (sym c.check-checked.ensures ∙ ap answer_of c.in-Refused.is) (number_some c.in-Refused.refusal))
 
+-- the first pattern's checks have passed from here on
 pub returns-then-is_keyed : goal.returns-then-is_keyed
 returns-then-is_keyed c = sym (two_pass _ _ _ _ _ (sym c.check-checked.ensures ∙ ap answer_of c.in_default.is) (pass (sym c.is_keyed.ensures ∙ c.if-is_keyed.true) none))
 
