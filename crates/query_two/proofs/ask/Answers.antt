@@ -15,6 +15,7 @@ returns-in_default c edges work =
     refused_two _ _ _ _ _ c.requires.second_value IndexMemory
     (stop (scans_none _ _ _ (sym c.scan-scanned.ensures ∙ c.in_default.is)))
 
+-- 12 has passed from here on
 pub slice_bounds-answers_from-end : goal.slice_bounds-answers_from-end
 slice_bounds-answers_from-end c = sym (length-take-le _ c.args.index.now (entered _ _ _ (sym c.scan-scanned.ensures ∙ c.in-Entries.is)).within)
 

@@ -14,11 +14,13 @@ returns-in_default c =
     refused_two _ _ _ _ _ c.requires.second_value IndexMemory
     (stop (scans_none _ _ _ (sym c.scan-scanned.ensures ∙ c.in_default.is)))
 
+-- 12 has passed from here on
 pub returns-in_default-standing : goal.returns-in_default-standing
 returns-in_default-standing c =
     refused_two _ _ _ _ _ c.requires.second_value EdgeMemory
     (pass (entered _ _ _ (sym c.scan-scanned.ensures ∙ c.in-Entries.is)).memory (stop (rw c.requires.second_value_2 (no-edge-memory _ _ (sym c.scan-standing.ensures ∙ c.in_default-standing.is)))))
 
+-- and so has 3
 pub returns-then-work-lt-LEAST_WORK : goal.returns-then-work-lt-LEAST_WORK
 returns-then-work-lt-LEAST_WORK c =
     refused_two _ _ _ _ _ c.requires.second_value WorkMemory
