@@ -96,21 +96,21 @@
  * measures it on x86-64; the tests hold these figures to it. memset and memcpy, which the library takes from your C library,
  * are in it with nothing but their return address.
  *
- *   rlc_query_two                                              31 KiB
+ *   rlc_query_two                                              30 KiB
  *   rlc_insert, rlc_remove, rlc_read_card                      18 KiB
  *   rlc_query                                                  17 KiB
- *   rlc_minimum_repeat                                          5 KiB
  *   rlc_search, rlc_route                                       3 KiB
  *   rlc_open, rlc_write_card                                    1 KiB
- *   rlc_minimum_repeat_computed, rlc_times_written              1 KiB
+ *   rlc_minimum_repeat, rlc_minimum_repeat_computed             1 KiB
+ *   rlc_times_written                                           1 KiB
  *
- * By a label that the layout lacks a query takes below 1 KiB, and a query by two patterns 15 KiB.
+ * By a label that the layout lacks a query takes below 1 KiB, and a query by two patterns 14 KiB.
  *
  *
  * WHAT IT IS BUILT FOR
  *
  * `rt lib`, which makes librlc_c.a, compiles for x86-64 and Linux (an ELF object, System V calling convention, fit for
- * position-independent programs), and for nothing else today. The library is 28 KB of code and constants, has no data of its
+ * position-independent programs), and for nothing else today. The library is 32 KB of code and constants, has no data of its
  * own, makes no system call, and computes with integers alone (in SSE2 registers too, which an interrupt has to save). It
  * asks these functions of the program that it is linked into, and nothing else: memset and memcpy. The proofs do not depend
  * on the processor. For another one the kit's compiler has to learn it; C and C++ programs need nothing but this header.
