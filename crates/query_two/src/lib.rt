@@ -22,8 +22,8 @@ fn ask(
     second: &[u8],
     index: &[u64],
 ) -> TwoReply
-    requires second_value { two_refusal (record { vertices = vertices; longest = longest }) start destination first.now second.now ≡ 0 }
-    requires second_value_2 { both_once? first.now second.now ≡ true }
+    requires passed { two_refusal (record { vertices = vertices; longest = longest }) start destination first.now second.now ≡ 0 }
+    requires both_once { both_once? first.now second.now ≡ true }
     ensures { (edges work : List ℕ) → FullTwo (record { vertices = vertices; longest = longest }) start destination first.now
         second.now (lent edges index.now work) (two_answered_of result) (lent edges index.now work) }
 {
@@ -48,8 +48,8 @@ fn search(
     index: &[u64],
     work: &mut [u64],
 ) -> TwoReply
-    requires second_value { two_refusal (record { vertices = vertices; longest = longest }) start destination first.now second.now ≡ 0 }
-    requires second_value_2 { both_once? first.now second.now ≡ false }
+    requires passed { two_refusal (record { vertices = vertices; longest = longest }) start destination first.now second.now ≡ 0 }
+    requires one_repeats { both_once? first.now second.now ≡ false }
     ensures { FullTwo (record { vertices = vertices; longest = longest }) start destination first.now second.now
         (lent edges.now index.now work.old) (two_answered_of result)
         (lent edges.now index.now work.new) }

@@ -12,7 +12,7 @@ use Rattle.query_two.proofs.ask.Goals as goal
 
 pub returns-in_default : goal.returns-in_default
 returns-in_default c edges work =
-    refused_two _ _ _ _ _ c.requires.second_value IndexMemory
+    refused_two _ _ _ _ _ c.requires.passed IndexMemory
     (stop (scans_none _ _ _ (sym c.scan-scanned.ensures ∙ c.in_default.is)))
 
 -- 12 has passed from here on
@@ -21,7 +21,7 @@ slice_bounds-answers_from-end c = sym (length-take-le _ c.args.index.now (entere
 
 pub answers_from-out-requires : goal.answers_from-out-requires
 answers_from-out-requires c =
-    let passed = c.requires.second_value in
+    let passed = c.requires.passed in
     let given = two_leaves _ _ _ _ _ passed in
     answerable _ _ _ _ _ passed (entered _ _ _ (sym c.scan-scanned.ensures ∙ c.in-Entries.is)) given.first_keyed (omega (arith, given))
 
@@ -30,13 +30,13 @@ slice_bounds-answers_to-end c = sym (length-take-le _ c.args.index.now (entered 
 
 pub answers_to-home-requires : goal.answers_to-home-requires
 answers_to-home-requires c =
-    let given = two_leaves _ _ _ _ _ c.requires.second_value in
-    answerable _ _ _ _ _ c.requires.second_value (entered _ _ _ (sym c.scan-scanned.ensures ∙ c.in-Entries.is)) given.second_keyed (omega (arith, given))
+    let given = two_leaves _ _ _ _ _ c.requires.passed in
+    answerable _ _ _ _ _ c.requires.passed (entered _ _ _ (sym c.scan-scanned.ensures ∙ c.in-Entries.is)) given.second_keyed (omega (arith, given))
 
 pub lowest-requires : goal.lowest-requires
 lowest-requires c =
-    ((two_leaves _ _ _ _ _ c.requires.second_value).bounds.vertices_most, (search rules, search rules))
+    ((two_leaves _ _ _ _ _ c.requires.passed).bounds.vertices_most, (search rules, search rules))
 
 pub returns : goal.returns
 returns c edges work =
-    full_once _ _ _ _ _ c.requires.second_value (entered _ _ _ (sym c.scan-scanned.ensures ∙ c.in-Entries.is)) c.requires.second_value_2 c.answers_from-out.ensures c.answers_to-home.ensures c.lowest.ensures edges work
+    full_once _ _ _ _ _ c.requires.passed (entered _ _ _ (sym c.scan-scanned.ensures ∙ c.in-Entries.is)) c.requires.both_once c.answers_from-out.ensures c.answers_to-home.ensures c.lowest.ensures edges work

@@ -34,7 +34,7 @@ pub are_once-requires : goal.are_once-requires
 are_once-requires c = keyed _ _ _ _ _ _ (sym c.check_two-checked.ensures ∙ ap answer_of c.in_default.is)
 
 pub ask-requires : goal.ask-requires
-ask-requires c = record { second_value = sym c.check_two-checked.ensures ∙ ap answer_of c.in_default.is; second_value_2 = sym c.are_once.ensures ∙ c.if-are_once.true }
+ask-requires c = record { passed = sym c.check_two-checked.ensures ∙ ap answer_of c.in_default.is; both_once = sym c.are_once.ensures ∙ c.if-are_once.true }
 
 pub returns-then-are_once : goal.returns-then-are_once
 returns-then-are_once c =
@@ -42,7 +42,7 @@ returns-then-are_once c =
 
 pub search-requires : goal.search-requires
 search-requires c =
-    record { second_value = sym c.check_two-checked.ensures ∙ ap answer_of c.in_default.is; second_value_2 = sym c.are_once.ensures ∙ c.if-are_once.false }
+    record { passed = sym c.check_two-checked.ensures ∙ ap answer_of c.in_default.is; one_repeats = sym c.are_once.ensures ∙ c.if-are_once.false }
 
 pub returns : goal.returns
 returns c =

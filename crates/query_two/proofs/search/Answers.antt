@@ -11,20 +11,20 @@ use Rattle.query_two.proofs.search.Goals as goal
 
 pub returns-in_default : goal.returns-in_default
 returns-in_default c =
-    refused_two _ _ _ _ _ c.requires.second_value IndexMemory
+    refused_two _ _ _ _ _ c.requires.passed IndexMemory
     (stop (scans_none _ _ _ (sym c.scan-scanned.ensures ∙ c.in_default.is)))
 
 -- 12 has passed from here on
 pub returns-in_default-standing : goal.returns-in_default-standing
 returns-in_default-standing c =
-    refused_two _ _ _ _ _ c.requires.second_value EdgeMemory
-    (pass (entered _ _ _ (sym c.scan-scanned.ensures ∙ c.in-Entries.is)).memory (stop (rw c.requires.second_value_2 (no-edge-memory _ _ (sym c.scan-standing.ensures ∙ c.in_default-standing.is)))))
+    refused_two _ _ _ _ _ c.requires.passed EdgeMemory
+    (pass (entered _ _ _ (sym c.scan-scanned.ensures ∙ c.in-Entries.is)).memory (stop (rw c.requires.one_repeats (no-edge-memory _ _ (sym c.scan-standing.ensures ∙ c.in_default-standing.is)))))
 
 -- and so has 3
 pub returns-then-work-lt-LEAST_WORK : goal.returns-then-work-lt-LEAST_WORK
 returns-then-work-lt-LEAST_WORK c =
-    refused_two _ _ _ _ _ c.requires.second_value WorkMemory
-    (pass (entered _ _ _ (sym c.scan-scanned.ensures ∙ c.in-Entries.is)).memory (pass (rw c.requires.second_value_2 (scans _ _ (sym c.scan-standing.ensures ∙ c.in-Edges.is)).memory) (stop (rw c.requires.second_value_2 (lt-leb _ _ c.if-work-lt-LEAST_WORK.true)))))
+    refused_two _ _ _ _ _ c.requires.passed WorkMemory
+    (pass (entered _ _ _ (sym c.scan-scanned.ensures ∙ c.in-Entries.is)).memory (pass (rw c.requires.one_repeats (scans _ _ (sym c.scan-standing.ensures ∙ c.in-Edges.is)).memory) (stop (rw c.requires.one_repeats (lt-leb _ _ c.if-work-lt-LEAST_WORK.true)))))
 
 pub slice_bounds-meet-end : goal.slice_bounds-meet-end
 slice_bounds-meet-end c =
@@ -39,10 +39,10 @@ meet-requires c =
     let stand = entered _ _ _ (sym c.scan-scanned.ensures ∙ c.in-Entries.is) in
     let edges = scans _ _ (sym c.scan-standing.ensures ∙ c.in-Edges.is) in
     record {
-      puttable = (first_puttable _ _ _ _ _ c.requires.second_value stand edges, second_puttable _ _ _ _ _ c.requires.second_value stand edges);
+      puttable = (first_puttable _ _ _ _ _ c.requires.passed stand edges, second_puttable _ _ _ _ _ c.requires.passed stand edges);
       least_work_in_bounds = c.if-work-lt-LEAST_WORK.false;
     }
 
 pub returns : goal.returns
 returns c =
-    full_repeating _ _ _ _ _ c.requires.second_value (entered _ _ _ (sym c.scan-scanned.ensures ∙ c.in-Entries.is)) (scans _ _ (sym c.scan-standing.ensures ∙ c.in-Edges.is)) c.requires.second_value_2 c.if-work-lt-LEAST_WORK.false c.meet.ensures
+    full_repeating _ _ _ _ _ c.requires.passed (entered _ _ _ (sym c.scan-scanned.ensures ∙ c.in-Entries.is)) (scans _ _ (sym c.scan-standing.ensures ∙ c.in-Edges.is)) c.requires.one_repeats c.if-work-lt-LEAST_WORK.false c.meet.ensures
