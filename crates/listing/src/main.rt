@@ -18,6 +18,7 @@ const CARD_ROOM: usize = 4096;
 const ROOM: usize = 72 + 32 * SLOTS;
 
 // Writes what is printed for the card. Returns where it ends.
+#[tactic(auto, using(memory::proofs::Reading::standing_within))]
 fn list(card: &[u8], out: &mut [u8]) -> usize
     requires { 32840 ≤ length out.old }
     ensures { Puts out.old 0 (printed card.now) out.new result }

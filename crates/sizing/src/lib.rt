@@ -24,6 +24,7 @@ fn put_refusal(out: &mut [u8], slots: u32, refusal: u32) -> usize
 }
 
 // Writes the line of the card. Returns where it ends.
+#[tactic(auto, using(memory::proofs::Reading::standing_within))]
 pub fn measure(
     card: &[u8],
     edges: &mut [u32],

@@ -8,12 +8,6 @@ use Rattle.memory.proofs.Reading.{standing_within}
 use Rattle.listing.proofs.Printed.{puts_listing, puts_refused}
 use Rattle.listing.proofs.list.Goals as goal
 
--- no more edges stand than slots
-pub overflow_cast-m : goal.overflow_cast-m
-overflow_cast-m c =
-    let card = c.read_card-changed in
-    omega (arith, c.standing_u32-m.ensures, standing_within card.new.edges, card.auto.edges)
-
 -- the entries lie within index memory
 pub slice_bounds-index-end : goal.slice_bounds-index-end
 slice_bounds-index-end c = omega (arith, c.standing_u64-n.ensures, standing_within c.read_card-changed.new.index)
