@@ -12,7 +12,7 @@ use model::{LEAST_WORK, MOST_EDGES, MOST_LONGEST, MOST_VERTICES};
 const BOTH: usize = MOST_VERTICES + MOST_VERTICES;
 
 // How many entries the index has, or that they do not fit.
-#[derive(Drop)]
+#[derive(Clone, Copy)]
 pub enum Built {
     Entries(usize),
     TooMany,

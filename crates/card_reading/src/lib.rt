@@ -10,7 +10,7 @@ ghost use Rattle.card_reading.specs.Card.{CardChecks, Fillable};
 use model::{HEAD_BYTES, Refusal, TRIPLE_BYTES};
 
 // What the checks of a card alone find: vertices, k and how many edges, or the refusal.
-#[derive(Drop)]
+#[derive(Clone, Copy)]
 pub enum Checked {
     Layout(u32, u32, usize),
     Refused(Refusal),

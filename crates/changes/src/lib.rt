@@ -13,7 +13,7 @@ use model::{Answer, MOST_EDGES, Refusal};
 use named::Slot;
 
 // A card's vertices, longest pattern and number of edges, or the refusal.
-#[derive(Drop)]
+#[derive(Clone, Copy)]
 enum Layout {
     Holds(u32, u32, usize),
     Refused(Refusal),
@@ -112,7 +112,7 @@ pub fn remove(
 }
 
 // A card reading's answer, and the card's numbers, which count if it is accepted.
-#[derive(Drop)]
+#[derive(Clone, Copy)]
 pub struct CardRead {
     pub vertices: u32,
     pub longest: u32,

@@ -19,7 +19,7 @@ const MOST_LONGEST: u32 = model::MOST_LONGEST as u32;
 const MOST_LABEL: u32 = model::MOST_LABEL as u32;
 
 // How many edges stand, or the refusal.
-#[derive(Drop)]
+#[derive(Clone, Copy)]
 pub enum Standing {
     Edges(usize),
     Refused(Refusal),

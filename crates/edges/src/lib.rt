@@ -14,14 +14,14 @@ use model::{FROM_UNIT, LABEL_UNIT, LABELS, MOST_EDGES, MOST_VERTICES};
 const MOST_LABEL: u32 = model::MOST_LABEL as u32;
 
 // What check 3 finds: how many edges stand, or that this is no edge memory of the graph.
-#[derive(Drop)]
+#[derive(Clone, Copy)]
 pub enum Scanned {
     Edges(usize),
     Invalid,
 }
 
 // Where an edge stands, or the slot before which it belongs.
-#[derive(Drop)]
+#[derive(Clone, Copy)]
 pub enum Found {
     At(usize),
     Before(usize),

@@ -50,7 +50,7 @@ pub const TABLE_LONGEST: usize = 4;
 pub const TABLE_SIZE: usize = 4680;
 
 // Why a call is turned down: a case for each number of document 01's table, and of document 02 (specs/Replies.antt has the numbers).
-#[derive(Drop)]
+#[derive(Clone, Copy)]
 pub enum Refusal {
     // the record
     Vertices,
@@ -80,14 +80,14 @@ pub enum Refusal {
 }
 
 // What a check, or a call that changes the layout, answers.
-#[derive(Drop)]
+#[derive(Clone, Copy)]
 pub enum Answer {
     Accepted,
     Refused(Refusal),
 }
 
 // What a level search (plain check) replies, with the number of levels built.
-#[derive(Drop)]
+#[derive(Clone, Copy)]
 pub enum SearchReply {
     Yes(u32),
     No(u32),
@@ -96,7 +96,7 @@ pub enum SearchReply {
 }
 
 // What a query replies.
-#[derive(Drop)]
+#[derive(Clone, Copy)]
 pub enum QueryReply {
     Yes,
     No,
@@ -104,7 +104,7 @@ pub enum QueryReply {
 }
 
 // What the route's call replies: yes with the number of edges, no, or refused.
-#[derive(Drop)]
+#[derive(Clone, Copy)]
 pub enum RouteReply {
     Yes(u32),
     No,
@@ -112,7 +112,7 @@ pub enum RouteReply {
 }
 
 // What a query by two patterns replies: yes with the lowest middle, no, or refused.
-#[derive(Drop)]
+#[derive(Clone, Copy)]
 pub enum TwoReply {
     Yes(u32),
     No,

@@ -10,7 +10,7 @@ use edges::Found;
 use model::Refusal;
 
 // How many edges stand and the slot at which the named one stands, or before which it belongs; or the refusal.
-#[derive(Drop)]
+#[derive(Clone, Copy)]
 enum Lookup {
     Present(usize, usize),
     Absent(usize, usize),
@@ -18,7 +18,7 @@ enum Lookup {
 }
 
 // How many edges stand and the slot of the named one, or the refusal.
-#[derive(Drop)]
+#[derive(Clone, Copy)]
 pub enum Slot {
     At(usize, usize),
     Refused(Refusal),

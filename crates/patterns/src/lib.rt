@@ -15,7 +15,7 @@ const MOST_LONGEST: u32 = model::MOST_LONGEST as u32;
 const MOST_LABEL: u8 = model::MOST_LABEL as u8;
 
 // The minimum repeat of a pattern, which is its first `length` labels, and how many times it was written.
-#[derive(Drop)]
+#[derive(Clone, Copy)]
 pub struct Folded {
     pub length: usize,
     pub times: usize,

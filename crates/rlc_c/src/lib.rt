@@ -135,7 +135,8 @@ pub extern "C" fn rlc_read_card(
         return OTHER_RECORD;
     }
     let changed = store::read_card(card, edges, index, work);
-    if let Answer::Refused(refusal) = changed.answer {
+    let answer = changed.answer;
+    if let Answer::Refused(refusal) = answer {
         return replies::refusal_number(refusal);
     }
     hand_back(words, changed)

@@ -64,7 +64,7 @@ pub fn unmark(w: &mut [u64], r: usize, j: usize)
 }
 
 // The four numbers of a row.
-#[derive(Drop)]
+#[derive(Clone, Copy)]
 struct Words {
     a: u64,
     b: u64,

@@ -12,7 +12,7 @@ use model::{HUB_UNIT, MOST_VERTICES, OWNER_UNIT, SIDE_UNIT};
 const FIELD: u64 = MOST_VERTICES as u64;
 
 // What check 12 finds: how many entries stand, or that this is no index memory of the graph.
-#[derive(Drop)]
+#[derive(Clone, Copy)]
 pub enum Extent {
     Entries(usize),
     Invalid,
@@ -69,7 +69,7 @@ fn field_end(vertices: u32) -> u64
 }
 
 // Why check 12 leaves its fast loop. As each way out leads elsewhere, the compiler keeps the tests apart, which is faster than one of all.
-#[derive(Drop)]
+#[derive(Clone, Copy)]
 enum Exit {
     // from this slot on nothing rises
     Rest(usize),

@@ -32,14 +32,14 @@ pub struct Header {
 }
 
 // The header that a call hands back, and its answer.
-#[derive(Drop)]
+#[derive(Clone, Copy)]
 pub struct Changed {
     pub header: Header,
     pub answer: Answer,
 }
 
 // The length of a written card, or the refusal.
-#[derive(Drop)]
+#[derive(Clone, Copy)]
 pub enum Written {
     Length(usize),
     Refused(Refusal),

@@ -72,9 +72,8 @@ returns-then-room-n c =
     let pre = c.requires in
     let d = domain (goal.at.returns-then-room-n c).At-loop-i in
     let end = splitting_ends d c.loop-i.invariant (small (goal.at.returns-then-room-n c).In-loop-i) c.common.ensures c.if-common-eq-MOST_VERTICES.true in
-    let on = sym c.bit.ensures ∙ c.if-bit-eq1.true in
     splitting_over pre.domain.most c.copy.ensures c.if-room-n.true
-    (splitting_both d c.loop-i.invariant (small (goal.at.returns-then-room-n c).In-loop-i) on end pre.space.code_small c.stage_steps-n.ensures c.if-room-n.true)
+    (splitting_both d c.loop-i.invariant (small (goal.at.returns-then-room-n c).In-loop-i) (sym c.bit.ensures ∙ omega (arith, c.if-bit-eq1.true)) end pre.space.code_small c.stage_steps-n.ensures c.if-room-n.true)
 
 pub unmark-requires : goal.unmark-requires
 unmark-requires c =
@@ -97,10 +96,9 @@ loop-i-preserved c =
     elim c.if-bit-eq1.branch [
       | then-bit-eq1+then-common-eq-MOST_VERTICES+else-room-n w ↦
           let end = splitting_ends d inv l w.common.ensures w.if-common-eq-MOST_VERTICES.true in
-          let on = sym b ∙ w.if-bit-eq1.true in
           rw
           (w.w-is, w.n-is)
-          (splitting_take d inv l on end pre.space.code_small w.stage_steps-n.ensures pre.small c.loop-i-test.true refl w.if-room-n.false w.unmark.ensures)
+          (splitting_take d inv l (sym b ∙ omega (arith, w.if-bit-eq1.true)) end pre.space.code_small w.stage_steps-n.ensures pre.small c.loop-i-test.true refl w.if-room-n.false w.unmark.ensures)
       | then-bit-eq1+else-common-eq-MOST_VERTICES w ↦
           rw
           (w.w-is, w.n-is)
