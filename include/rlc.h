@@ -109,7 +109,7 @@
  *
  * WHAT IT IS BUILT FOR
  *
- * `rt lib`, which makes librlc_c.a, compiles for x86-64 and Linux (an ELF object, System V calling convention, fit for
+ * `tools/ship`, which makes librlc_c.a, compiles for x86-64 and Linux (an ELF object, System V calling convention, fit for
  * position-independent programs), and for nothing else today. The library is 32 KB of code and constants, has no data of its
  * own, makes no system call, and computes with integers alone (in SSE2 registers too, which an interrupt has to save). It
  * asks these functions of the program that it is linked into, and nothing else: memset and memcpy. The proofs do not depend
