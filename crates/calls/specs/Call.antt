@@ -3,11 +3,8 @@ use Rattle.std.specs.Prelude.{◌≡◌, List, [], ℕ, zero, suc, ◌-◌, get_
 use Rattle.model.specs.Limits.{most_label}
 use Rattle.model.specs.Lists.{◌∈◌, zeroed}
 use Rattle.model.specs.Edges.{Graph}
-
 -- "The record holds the number of places and k." Checks look at these alone
-pub record Size : Type 0 where
-  pub vertices : ℕ
-  pub longest : ℕ
+pub use Rattle.model.specs.declared.Size.{Size}
 
 -- "The record gains eight totals" (document 02, Four)
 pub record Header : Type 0 where

@@ -1,21 +1,13 @@
 -- The documents' numbers and replies for each case of the enums.
-use Rattle.std.specs.Prelude.{ℕ}
+use Rattle.std.specs.Prelude.{Bool, true, false, Option, Some, None, Result, Ok, Err, ℕ}
 use Rattle.model.specs.Query.{Answered, Yes as AnsweredYes, No as AnsweredNo, Refused as AnsweredRefused}
 use Rattle.model.specs.States.{Reply, Yes, No, Spent, Refused}
 use Rattle.model.specs.Routes.{Routed, Yes as RoutedYes, No as RoutedNo, Refused as RoutedRefused}
 use Rattle.model.specs.Middles.{TwoAnswered, Yes as TwoAnsweredYes, No as TwoAnsweredNo, Refused as TwoAnsweredRefused}
 use Rattle.model.specs.declared.Refusal.{Refusal}
 use Rattle.model.specs.declared.Refusal.TheVariants.{Vertices, Longest, EdgeMemory, WorkMemory, EdgeEnd, EdgeLabel, EdgePresent, EdgeAbsent, EdgeSlots, QueryEnd, QueryPattern, IndexMemory, IndexSlots, CardMark, CardVersion, CardEdges, CardOutput, WalkMemory}
-use Rattle.model.specs.declared.Answer.{Answer}
-use Rattle.model.specs.declared.Answer.TheVariants.{Accepted, Refused as NotAccepted}
 use Rattle.model.specs.declared.SearchReply.{SearchReply}
-use Rattle.model.specs.declared.SearchReply.TheVariants.{Yes as SearchYes, No as SearchNo, Spent as SearchSpent, Refused as SearchRefused}
-use Rattle.model.specs.declared.QueryReply.{QueryReply}
-use Rattle.model.specs.declared.QueryReply.TheVariants.{Yes as QueryYes, No as QueryNo, Refused as QueryRefused}
-use Rattle.model.specs.declared.RouteReply.{RouteReply}
-use Rattle.model.specs.declared.RouteReply.TheVariants.{Yes as RouteYes, No as RouteNo, Refused as RouteRefused}
-use Rattle.model.specs.declared.TwoReply.{TwoReply}
-use Rattle.model.specs.declared.TwoReply.TheVariants.{Yes as TwoYes, No as TwoNo, Refused as TwoRefused}
+use Rattle.model.specs.declared.SearchReply.TheVariants.{Yes as SearchYes, No as SearchNo, Spent as SearchSpent}
 
 -- "Number and condition"
 abbrev pub number_of : Refusal → ℕ
@@ -39,31 +31,31 @@ number_of CardOutput = 17
 number_of WalkMemory = 18
 
 -- the number of an answer, 0 if it is accepted
-abbrev pub answer_of : Answer → ℕ
-answer_of Accepted = 0
-answer_of (NotAccepted r) = number_of r
+abbrev pub answer_of : Result (Unit {0}) Refusal → ℕ
+answer_of (Ok _) = 0
+answer_of (Err r) = number_of r
 
 -- yes c, no c, spent c, refused n
-abbrev pub reply_of : SearchReply → Reply
-reply_of (SearchYes c) = Yes c
-reply_of (SearchNo c) = No c
-reply_of (SearchSpent c) = Spent c
-reply_of (SearchRefused r) = Refused (number_of r)
+abbrev pub reply_of : Result SearchReply Refusal → Reply
+reply_of (Ok (SearchYes c)) = Yes c
+reply_of (Ok (SearchNo c)) = No c
+reply_of (Ok (SearchSpent c)) = Spent c
+reply_of (Err r) = Refused (number_of r)
 
 -- yes, no, refused n
-abbrev pub answered_of : QueryReply → Answered
-answered_of QueryYes = AnsweredYes
-answered_of QueryNo = AnsweredNo
-answered_of (QueryRefused r) = AnsweredRefused (number_of r)
+abbrev pub answered_of : Result Bool Refusal → Answered
+answered_of (Ok true) = AnsweredYes
+answered_of (Ok false) = AnsweredNo
+answered_of (Err r) = AnsweredRefused (number_of r)
 
 -- yes with the number of edges, no, refused n
-abbrev pub routed_of : RouteReply → Routed
-routed_of (RouteYes n) = RoutedYes n
-routed_of RouteNo = RoutedNo
-routed_of (RouteRefused r) = RoutedRefused (number_of r)
+abbrev pub routed_of : Result (Option ℕ) Refusal → Routed
+routed_of (Ok (Some n)) = RoutedYes n
+routed_of (Ok None) = RoutedNo
+routed_of (Err r) = RoutedRefused (number_of r)
 
 -- yes with the lowest middle, no, refused n
-abbrev pub two_answered_of : TwoReply → TwoAnswered
-two_answered_of (TwoYes m) = TwoAnsweredYes m
-two_answered_of TwoNo = TwoAnsweredNo
-two_answered_of (TwoRefused r) = TwoAnsweredRefused (number_of r)
+abbrev pub two_answered_of : Result (Option ℕ) Refusal → TwoAnswered
+two_answered_of (Ok (Some m)) = TwoAnsweredYes m
+two_answered_of (Ok None) = TwoAnsweredNo
+two_answered_of (Err r) = TwoAnsweredRefused (number_of r)
