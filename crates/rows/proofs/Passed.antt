@@ -1,9 +1,9 @@
--- The search for the next vertex of a row, and for the first of two rows: a number passed, and the vertex found.
-use mathlib.Core.Path.{◌≡◌, refl, sym, ap, ◌∙◌}
+-- The search for the first vertex of a set, number by number: a number passed, and the vertex found.
+use mathlib.Core.Path.{◌≡◌, sym, ap, ◌∙◌}
 use mathlib.Core.List.{List}
 use mathlib.Core.Logic.{◌↔◌}
-use Prim.Native.Nat.{ℕ, ◌+◌, ◌-◌, ◌*◌, ◌/◌, ◌%◌, ◌^◌, ◌≤◌, ◌<◌}
-use native.Mathlib.Nat.{le_refl, lt_of_le_of_lt}
+use Prim.Native.Nat.{ℕ, ◌+◌, ◌-◌, ◌*◌, ◌/◌, ◌%◌, ◌^◌, ◌≤◌, ◌<◌, max}
+use native.Mathlib.Nat.{lt_of_le_of_lt}
 use native.Mathlib.Omega.{arith}
 use native.Mathlib.Decide.{dec_lt}
 use lib.Bits.{bit_and, and_le_l}
@@ -12,106 +12,108 @@ use lib.ListN.{get_or}
 use lib.Pow.{shr_le, shr-shr}
 use Rattle.model.specs.Limits.{most_vertices}
 use Rattle.rows.specs.Region.{row_numbers}
-use Rattle.rows.specs.Rows.{cell, On, NextVertex, FirstInBoth}
+use Rattle.rows.specs.Rows.{cell, On, FirstFrom, NoneFrom, FirstShared, NoneShared}
 use Rattle.rows.proofs.Bits.{bit, no_bit, bit_below, and_iff, Lowest, trailing}
 
--- row r has no vertex from p up to q
-pub record Gap (w : List ℕ) (r p q : ℕ) : Type 0 where
-  pub low : p ≤ q
-  pub high : q ≤ most_vertices
-  pub gap : (j : ℕ) → p ≤ j → j < q → On w r j → ⊥
+-- no vertex of P from p on is in the first i numbers
+pub record Gap (P : ℕ → Type 0) (p i : ℕ) : Type 0 where
+  pub gap : (j : ℕ) → p ≤ j → j < i * 64 → P j → ⊥
 
-pub passed_none : (w : List ℕ) (r p : ℕ) → p ≤ most_vertices → Gap w r p p
-passed_none w r p h = record { low = le_refl p; high = h; gap = λ j k l. absurd (omega arith) }
+-- q is the first vertex of P from p on
+record First (P : ℕ → Type 0) (p q : ℕ) : Type 0 where
+  low : p ≤ q
+  high : q < most_vertices
+  gap : (j : ℕ) → p ≤ j → j < q → P j → ⊥
+  here : P q
 
-pub passed_all : {w : List ℕ} {r p q : ℕ} → Gap w r p q → most_vertices ≤ q → NextVertex w r p q
-passed_all m h = record { low = m.low; high = m.high; gap = m.gap; here = λ k. absurd (omega arith) }
+pub gap_none : (P : ℕ → Type 0) (p i : ℕ) → i * 64 ≤ p → Gap P p i
+gap_none P p i h = record { gap = λ j k l. absurd (omega arith) }
 
-module _ {w : List ℕ} {r p q : ℕ} (m : Gap w r p q) (h : q < most_vertices) where
-  -- the bits of q's number from q on
-  abbrev pub rest : ℕ
-  rest = get_or w (r * row_numbers + q / 64) 0 / 2 ^ (q % 64)
-
-  rest_bit : (i : ℕ) → bit rest i ≡ bit (get_or w (r * row_numbers + q / 64) 0) (q % 64 + i)
-  rest_bit i = ap (λ (x : ℕ). x % 2) (shr-shr (get_or w (r * row_numbers + q / 64) 0) (q % 64) i)
-
-  rest_cell : (i j : ℕ) → j ≡ q + i → j / 64 ≡ q / 64 → cell w r j ≡ bit rest i
-  unfolding cell
-  rest_cell i j d e = let s : j % 64 ≡ q % 64 + i = omega arith in rw (e, s) (sym (rest_bit i))
-
-  pub passed_number : rest ≡ 0 → Gap w r p (q / 64 * 64 + 64)
-  passed_number z =
+-- q is the first vertex of number i from p on, and x has the bits of P from there on
+module _ {P : ℕ → Type 0} {p i q x : ℕ} (m : Gap P p i) (h : i < row_numbers) (l : p / 64 ≤ i) (e : q ≡ max p (i * 64))
+    (is : (j : ℕ) → q ≤ j → j / 64 ≡ i → (bit x (j - q) ≡ 1) ↔ P j) where
+  gap_number : x ≡ 0 → Gap P p (i + 1)
+  gap_number z =
       record {
-        low = omega (arith, m.low);
-        high = omega arith;
-        gap = λ j k l e. elim (dec_lt j q) [
-          | yes d ↦ m.gap j k d e
-          | no d ↦ no_bit (j - q) (rw z at (sym (rest_cell (j - q) j (omega arith) (omega arith)) ∙ e))
+        gap = λ j k n y. elim (dec_lt j (i * 64)) [
+          | yes d ↦ m.gap j k d y
+          | no d ↦ no_bit (j - q) (rw z at ((is j (omega arith) (omega arith)).1 y))
         ];
       }
 
-  pub passed_found : (rest ≡ 0 → ⊥) → get_or w (r * row_numbers + q / 64) 0 < 2 ^ 64 → NextVertex w r p (q + count_trailing_zeros 64 rest)
+  -- x has no bit of another number
+  first_found : (x ≡ 0 → ⊥) → x < 2 ^ 64 → ((t : ℕ) → bit x t ≡ 1 → q % 64 + t < 64) → First P p (q + count_trailing_zeros 64 x)
+  first_found n small inside =
+      let t = count_trailing_zeros 64 x in
+      let first : Lowest x t = trailing 64 x small n in
+      let within : q % 64 + t < 64 = inside t first.here in
+      let back : (q + t) - q ≡ t = omega arith in
+      record {
+        low = omega arith;
+        high = omega arith;
+        gap = λ j k n y. elim (dec_lt j (i * 64)) [
+          | yes d ↦ m.gap j k d y
+          | no d ↦ first.before (j - q) (omega arith) ((is j (omega arith) (omega arith)).1 y)
+        ];
+        here = (is (q + t) (omega arith) (omega arith)).0 (rw back first.here);
+      }
+
+-- number i of row r
+abbrev pub number : List ℕ → ℕ → ℕ → ℕ
+number w r i = get_or w (r * row_numbers + i) 0
+
+-- ---- one row
+
+-- the bits of that number from q on
+abbrev pub rest : List ℕ → ℕ → ℕ → ℕ → ℕ
+rest w r i q = number w r i / 2 ^ (q % 64)
+
+module _ (w : List ℕ) (r : ℕ) {p i q : ℕ} (m : Gap (On w r) p i) (h : i < row_numbers) (l : p / 64 ≤ i) (e : q ≡ max p (i * 64)) where
+  rest_bit : (t : ℕ) → bit (rest w r i q) t ≡ bit (number w r i) (q % 64 + t)
+  rest_bit t = ap (λ (x : ℕ). x % 2) (shr-shr (number w r i) (q % 64) t)
+
+  rest_is : (j : ℕ) → q ≤ j → j / 64 ≡ i → (bit (rest w r i q) (j - q) ≡ 1) ↔ On w r j
+  unfolding cell
+  rest_is j k d =
+      let s : q % 64 + (j - q) ≡ j % 64 = omega arith in
+      let is : bit (rest w r i q) (j - q) ≡ bit (number w r i) (j % 64) = rest_bit (j - q) ∙ ap (bit (number w r i)) s in
+      rw d (λ y. sym is ∙ y, λ y. is ∙ y)
+
+  pub passed_number : rest w r i q ≡ 0 → Gap (On w r) p (i + 1)
+  passed_number = gap_number m h l e rest_is
+
+  pub passed_found : (rest w r i q ≡ 0 → ⊥) → number w r i < 2 ^ 64 → FirstFrom w r p (q + count_trailing_zeros 64 (rest w r i q))
   passed_found n fits =
-      let t = count_trailing_zeros 64 rest in
-      let first : Lowest rest t = trailing 64 rest (lt_of_le_of_lt (shr_le (get_or w (r * row_numbers + q / 64) 0) (q % 64)) fits) n in
-      let inside : q % 64 + t < 64 =
-      bit_below 64 (get_or w (r * row_numbers + q / 64) 0) (q % 64 + t) fits (sym (rest_bit t) ∙ first.here) in
-      record {
-        low = omega (arith, m.low);
-        high = omega arith;
-        gap = λ j k l e. elim (dec_lt j q) [
-          | yes d ↦ m.gap j k d e
-          | no d ↦ first.before (j - q) (omega arith) (sym (rest_cell (j - q) j (omega arith) (omega arith)) ∙ e)
-        ];
-        here = λ _. rest_cell t (q + t) refl (omega arith) ∙ first.here;
-      }
+      let first = first_found m h l e rest_is n (lt_of_le_of_lt (shr_le (number w r i) (q % 64)) fits)
+      (λ t y. bit_below 64 (number w r i) (q % 64 + t) fits (sym (rest_bit t) ∙ y)) in
+      record { low = first.low; high = first.high; gap = first.gap; here = first.here }
 
--- ---- two rows, number by number
+pub passed_all : (w : List ℕ) (r : ℕ) {p i : ℕ} → Gap (On w r) p i → row_numbers ≤ i → NoneFrom w r p
+passed_all w r m h = record { gap = λ j k l. m.gap j k (omega arith) }
 
--- no vertex of the numbers passed is in both
-pub record BothGap (w : List ℕ) (a b q : ℕ) : Type 0 where
-  pub even : q % 64 ≡ 0
-  pub high : q ≤ most_vertices
-  pub gap : (j : ℕ) → j < q → On w a j → On w b j → ⊥
+-- ---- two rows
 
-pub both_none : (w : List ℕ) (a b : ℕ) → BothGap w a b 0
-both_none w a b = record { even = omega arith; high = omega arith; gap = λ j l. absurd (omega arith) }
+-- j is in row a and in row b
+abbrev pub Both : List ℕ → ℕ → ℕ → ℕ → Type 0
+Both w a b j = On w a j × On w b j
 
-pub both_all : {w : List ℕ} {a b q : ℕ} → BothGap w a b q → most_vertices ≤ q → FirstInBoth w a b q
-both_all m h = record { high = m.high; gap = m.gap; here = λ k. absurd (omega arith) }
+-- the bits of number i that are in both
+abbrev pub shared : List ℕ → ℕ → ℕ → ℕ → ℕ
+shared w a b i = bit_and (number w a i) (number w b i)
 
-module _ {w : List ℕ} {a b q : ℕ} (m : BothGap w a b q) (h : q < most_vertices) where
-  -- the bits of q's number that are in both
-  abbrev pub shared : ℕ
-  shared = bit_and (get_or w (a * row_numbers + q / 64) 0) (get_or w (b * row_numbers + q / 64) 0)
-
-  shared_iff : (j : ℕ) → j / 64 ≡ q / 64 → (bit shared (j % 64) ≡ 1) ↔ (On w a j × On w b j)
+module _ (w : List ℕ) (a b : ℕ) {i : ℕ} (m : Gap (Both w a b) 0 i) (h : i < row_numbers) where
+  shared_is : (j : ℕ) → i * 64 ≤ j → j / 64 ≡ i → (bit (shared w a b i) (j - i * 64) ≡ 1) ↔ Both w a b j
   unfolding cell
-  shared_iff j e = rw e (and_iff _ _ (j % 64))
+  shared_is j k d = let s : j - i * 64 ≡ j % 64 = omega arith in rw (s, d) (and_iff _ _ (j % 64))
 
-  pub both_number : shared ≡ 0 → BothGap w a b (q + 64)
-  both_number z =
-      record {
-        even = omega (arith, m.even);
-        high = omega (arith, m.even);
-        gap = λ j l x y. elim (dec_lt j q) [
-          | yes d ↦ m.gap j d x y
-          | no d ↦ no_bit (j % 64) (rw z at ((shared_iff j (omega (arith, m.even))).1 (x, y)))
-        ];
-      }
+  pub both_number : shared w a b i ≡ 0 → Gap (Both w a b) 0 (i + 1)
+  both_number = gap_number m h (omega arith) (omega arith) shared_is
 
-  pub both_found : (shared ≡ 0 → ⊥) → get_or w (a * row_numbers + q / 64) 0 < 2 ^ 64 → FirstInBoth w a b (q + count_trailing_zeros 64 shared)
+  pub both_found : (shared w a b i ≡ 0 → ⊥) → number w a i < 2 ^ 64 → FirstShared w a b (i * 64 + count_trailing_zeros 64 (shared w a b i))
   both_found n small =
-      let fits : shared < 2 ^ 64 = lt_of_le_of_lt (and_le_l (get_or w (a * row_numbers + q / 64) 0) (get_or w (b * row_numbers + q / 64) 0)) small in
-      let t = count_trailing_zeros 64 shared in
-      let first : Lowest shared t = trailing 64 shared fits n in
-      let inside : t < 64 = bit_below 64 shared t fits first.here in
-      let low : (q + t) % 64 ≡ t = omega (arith, m.even) in
-      record {
-        high = omega (arith, m.even);
-        gap = λ j l x y. elim (dec_lt j q) [
-          | yes d ↦ m.gap j d x y
-          | no d ↦ first.before (j % 64) (omega (arith, m.even)) ((shared_iff j (omega (arith, m.even))).1 (x, y))
-        ];
-        here = λ _. (shared_iff (q + t) (omega (arith, m.even))).0 (rw low first.here);
-      }
+      let fits : shared w a b i < 2 ^ 64 = lt_of_le_of_lt (and_le_l (number w a i) (number w b i)) small in
+      let first = first_found m h (omega arith) (omega arith) shared_is n fits (λ t y. omega (arith, bit_below 64 (shared w a b i) t fits y)) in
+      record { high = first.high; gap = λ j l x y. first.gap j (omega arith) l (x, y); here = first.here }
+
+pub both_all : (w : List ℕ) (a b : ℕ) {i : ℕ} → Gap (Both w a b) 0 i → row_numbers ≤ i → NoneShared w a b
+both_all w a b m h = record { gap = λ j l x y. m.gap j (omega arith) (omega arith) (x, y) }

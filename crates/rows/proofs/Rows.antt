@@ -8,7 +8,7 @@ use native.Mathlib.Decide.{ℕ_discrete}
 use lib.ListN.{length}
 use Rattle.model.specs.Limits.{most_vertices, least_work}
 use Rattle.rows.specs.Region.{row_numbers}
-use Rattle.rows.specs.Rows.{cell, On, Has, Row, KeepsRows, InRows, Empty, Becomes, NextVertex, StepsTo, Domain}
+use Rattle.rows.specs.Rows.{cell, On, Has, Row, KeepsRows, InRows, Empty, Becomes, FirstFrom, NoneFrom, StepsTo, Domain}
 
 -- ---- one memory
 
@@ -22,10 +22,6 @@ module _ (w : List ℕ) (r j : ℕ) where
 
   pub on_dec : Dec (On w r j)
   on_dec = ℕ_discrete (cell w r j) 1
-
--- a row with no next vertex from 0 on is empty
-pub next_none : {w : List ℕ} {r p q : ℕ} → NextVertex w r p q → p ≡ 0 → q ≡ most_vertices → (j : ℕ) → j < most_vertices → On w r j → ⊥
-next_none h d e j l = h.gap j (omega arith) (omega arith)
 
 module _ {w : List ℕ} {r : ℕ} {P Q : ℕ → Type 0} where
   pub row_as : ((j : ℕ) → j < most_vertices → P j ↔ Q j) → Row w r P → Row w r Q
@@ -67,13 +63,16 @@ module _ {w w' : List ℕ} {K : ℕ → Type 0} where
     keeps_row {r} x p =
         record { only = λ j l e. p.only j l (sym (keeps_cell r x j l) ∙ e); all = λ j l q. keeps_cell r x j l ∙ p.all j l q }
 
-    pub keeps_next : {r p q : ℕ} → K r → NextVertex w' r p q → NextVertex w r p q
-    keeps_next {r} x n =
+    pub keeps_none_from : {r p : ℕ} → K r → NoneFrom w' r p → NoneFrom w r p
+    keeps_none_from {r} x n = record { gap = λ j k l e. n.gap j k l (keeps_cell r x j l ∙ e) }
+
+    pub keeps_first : {r p q : ℕ} → K r → FirstFrom w' r p q → FirstFrom w r p q
+    keeps_first {r} x n =
         record {
           low = n.low;
           high = n.high;
           gap = λ j k l e. n.gap j k l (keeps_cell r x j (omega (arith, n.high)) ∙ e);
-          here = λ k. sym (keeps_cell r x _ k) ∙ n.here k;
+          here = sym (keeps_cell r x _ n.high) ∙ n.here;
         }
 
     pub keeps_empty : {base n : ℕ} → ((r : ℕ) → InRows base (base + n) r → K r) → Empty w base n → Empty w' base n

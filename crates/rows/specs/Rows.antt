@@ -1,5 +1,5 @@
 -- Sets of vertices as rows of bits in work memory: bit j of row r says whether vertex j is in it.
-use Rattle.std.specs.Prelude.{◌≡◌, List, ◌≢◌, ℕ, ◌+◌, ◌*◌, ◌/◌, ◌%◌, ◌^◌, ◌≤◌, ◌<◌, length, get_or}
+use Rattle.std.specs.Prelude.{◌≡◌, List, ◌≢◌, ℕ, ◌+◌, ◌*◌, ◌/◌, ◌%◌, ◌^◌, ◌≤◌, ◌<◌, length, get_or, Option, None, Some}
 use Rattle.model.specs.Limits.{most_vertices, least_work}
 use Rattle.rows.specs.Region.{row_numbers, work_rows, child_rows, open_row}
 
@@ -40,18 +40,36 @@ pub record Becomes (w w' : List ℕ) (r : ℕ) (P : ℕ → Type 0) : Type 0 whe
   pub keeps : KeepsRows w w' (λ q. q ≢ r)
   pub row : Row w' r P
 
--- q is the first vertex of row r from p on, or 256
-pub record NextVertex (w : List ℕ) (r p q : ℕ) : Type 0 where
+-- q is the first vertex of row r from p on
+pub record FirstFrom (w : List ℕ) (r p q : ℕ) : Type 0 where
   pub low : p ≤ q
-  pub high : q ≤ most_vertices
+  pub high : q < most_vertices
   pub gap : (j : ℕ) → p ≤ j → j < q → On w r j → ⊥
-  pub here : q < most_vertices → On w r q
+  pub here : On w r q
 
--- q is the first vertex that is both in row a and in row b, or 256
-pub record FirstInBoth (w : List ℕ) (a b q : ℕ) : Type 0 where
-  pub high : q ≤ most_vertices
+-- row r has no vertex from p on
+pub record NoneFrom (w : List ℕ) (r p : ℕ) : Type 0 where
+  pub gap : (j : ℕ) → p ≤ j → j < most_vertices → On w r j → ⊥
+
+-- the first vertex of row r from p on, if there is one
+abbrev pub NextVertex : List ℕ → ℕ → ℕ → Option ℕ → Type 0
+NextVertex w r p None = NoneFrom w r p
+NextVertex w r p (Some q) = FirstFrom w r p q
+
+-- q is the first vertex that is both in row a and in row b
+pub record FirstShared (w : List ℕ) (a b q : ℕ) : Type 0 where
+  pub high : q < most_vertices
   pub gap : (j : ℕ) → j < q → On w a j → On w b j → ⊥
-  pub here : q < most_vertices → On w a q × On w b q
+  pub here : On w a q × On w b q
+
+-- no vertex is both in row a and in row b
+pub record NoneShared (w : List ℕ) (a b : ℕ) : Type 0 where
+  pub gap : (j : ℕ) → j < most_vertices → On w a j → On w b j → ⊥
+
+-- the first vertex that is both in row a and in row b, if there is one
+abbrev pub FirstInBoth : List ℕ → ℕ → ℕ → Option ℕ → Type 0
+FirstInBoth w a b None = NoneShared w a b
+FirstInBoth w a b (Some q) = FirstShared w a b q
 
 -- ---- the step rows
 

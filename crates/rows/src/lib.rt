@@ -164,35 +164,31 @@ pub fn clear(w: &mut [u64], r: usize)
     store(w, r, v);
 }
 
-// The first vertex of row r from p on, or MOST_VERTICES.
-pub fn next(w: &[u64], r: usize, p: usize) -> usize
+// The first vertex of row r from p on.
+pub fn next(w: &[u64], r: usize, p: usize) -> Option<usize>
     requires { Has w.now r × (p ≤ most_vertices) }
     ensures { NextVertex w.now r p result }
 {
-    let mut q = p;
-    while q < MOST_VERTICES {
-        let s = (q % BITS) as u64;
-        let x = w[r * ROW + q / BITS] >> s;
+    for i in p / BITS..ROW {
+        let q = p.max(i * BITS);
+        let x = w[r * ROW + i] >> (q % BITS);
         if x != 0 {
-            return q + u64::trailing_zeros(x) as usize;
+            return Some(q + x.trailing_zeros() as usize);
         }
-        q = q / BITS * BITS + BITS;
     }
-    q
+    None
 }
 
-// The first vertex that is both in row a and in row b, or MOST_VERTICES.
-pub fn common(w: &[u64], a: usize, b: usize) -> usize
+// The first vertex that is both in row a and in row b.
+pub fn common(w: &[u64], a: usize, b: usize) -> Option<usize>
     requires { Has w.now a × Has w.now b }
     ensures { FirstInBoth w.now a b result }
 {
-    let mut q = 0;
-    while q < MOST_VERTICES {
-        let x = w[a * ROW + q / BITS] & w[b * ROW + q / BITS];
+    for i in 0..ROW {
+        let x = w[a * ROW + i] & w[b * ROW + i];
         if x != 0 {
-            return q + u64::trailing_zeros(x) as usize;
+            return Some(i * BITS + x.trailing_zeros() as usize);
         }
-        q += BITS;
     }
-    q
+    None
 }

@@ -1,11 +1,7 @@
--- `rows::next` meets its contract. The invariant: row r has no vertex from p up to q.
-use Prim.Native.Nat.{◌-◌}
-use Rattle.model.specs.Limits.{most_vertices}
+-- `rows::next` meets its contract. The invariant: row r has no vertex from p on in the numbers passed.
+use Rattle.rows.specs.Rows.{On}
 use Rattle.rows.proofs.Passed.{Gap}
 use Rattle.rows.proofs.next.Given as goal
 
-abbrev pub invariant-loop-q : goal.invariant-loop-q
-invariant-loop-q l = Gap l.w l.r l.p l.q
-
-abbrev pub decreases-loop-q : goal.decreases-loop-q
-decreases-loop-q l = most_vertices - l.q
+abbrev pub invariant-loop-i : goal.invariant-loop-i
+invariant-loop-i l = Gap (On l.w l.r) l.p l.i
