@@ -1,7 +1,4 @@
-use mathlib.Core.Path.{◌≡◌, refl}
-use Prim.Native.Nat.{◌-◌}
-use lib.ListN.{length, drop}
-use Rattle.model.specs.Computed.Edges.{zeros?}
+use mathlib.Core.Path.{refl}
 use Rattle.memory.proofs.Reading.{zeros_stop, zeros_more, zeros_end}
 use Rattle.memory.proofs.all_zero_u64.Goals as goal
 

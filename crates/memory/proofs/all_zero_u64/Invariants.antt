@@ -1,9 +1,8 @@
 -- `memory::all_zero_u64` meets its contract. The invariant: the slots from i on are zero iff all are.
-use mathlib.Core.Path.{◌≡◌, refl}
+use mathlib.Core.Path.{◌≡◌}
 use Prim.Native.Nat.{◌-◌}
 use lib.ListN.{length, drop}
 use Rattle.model.specs.Computed.Edges.{zeros?}
-use Rattle.memory.proofs.Reading.{zeros_stop, zeros_more, zeros_end}
 use Rattle.memory.proofs.all_zero_u64.Given as goal
 
 abbrev pub invariant-loop-i : goal.invariant-loop-i

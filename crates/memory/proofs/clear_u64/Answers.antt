@@ -1,7 +1,4 @@
-use Prim.Native.Nat.{◌-◌}
-use lib.ListN.{length}
-use Rattle.model.specs.Lists.{zeroed}
-use Rattle.memory.proofs.Mix.{Mixed, front_full}
+use Rattle.memory.proofs.Mix.{front_full}
 use Rattle.memory.proofs.Copying.{zero_start, zero_turn}
 use Rattle.memory.proofs.clear_u64.Goals as goal
 

@@ -2,8 +2,7 @@
 use Prim.Native.Nat.{◌-◌}
 use lib.ListN.{length}
 use Rattle.model.specs.Lists.{zeroed}
-use Rattle.memory.proofs.Mix.{Mixed, front_full}
-use Rattle.memory.proofs.Copying.{zero_start, zero_turn}
+use Rattle.memory.proofs.Mix.{Mixed}
 use Rattle.memory.proofs.clear_u64.Given as goal
 
 abbrev pub invariant-loop-slot : goal.invariant-loop-slot

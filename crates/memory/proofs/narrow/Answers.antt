@@ -1,7 +1,5 @@
-use Prim.Native.Nat.{◌-◌}
 use native.Mathlib.Omega.{arith}
-use lib.ListN.{length, take}
-use Rattle.memory.proofs.Mix.{Mixed, front_full}
+use Rattle.memory.proofs.Mix.{front_full}
 use Rattle.memory.proofs.Copying.{narrow_start, narrow_turn, narrow_fits}
 use Rattle.memory.proofs.narrow.Goals as goal
 
@@ -14,11 +12,10 @@ overflow_cast-to c =
     omega (arith, narrow_fits a.to.now a.from.now c.requires.0 c.requires.1 c.loop-i.i (omega arith))
 
 pub loop-i-preserved : goal.loop-i-preserved
-loop-i-preserved c =
-    narrow_turn _ _ c.requires.0 c.loop-i.invariant c.loop-i-test.true
+loop-i-preserved c = narrow_turn _ _ c.requires.0 c.loop-i.invariant (omega arith)
 
 pub shape_of-to : goal.shape_of-to
 shape_of-to c = c.loop-i.invariant.size
 
 pub returns : goal.returns
-returns c = front_full c.loop-i.invariant c.loop-i-test.false
+returns c = front_full c.loop-i.invariant (omega arith)

@@ -1,10 +1,9 @@
 -- `memory::standing_u32` meets its contract. The invariant: the slots passed are not zero.
 use mathlib.Core.Path.{◌≡◌}
 use Prim.Native.Nat.{◌-◌}
-use native.Mathlib.Nat.{zero-add}
 use lib.ListN.{length}
 use Rattle.model.specs.Edges.{standing}
-use Rattle.memory.proofs.Reading.{standing_from, standing_stop, standing_more, standing_end}
+use Rattle.memory.proofs.Reading.{standing_from}
 use Rattle.memory.proofs.standing_u32.Given as goal
 
 abbrev pub invariant-loop-i : goal.invariant-loop-i

@@ -1,9 +1,5 @@
-use mathlib.Core.Path.{◌≡◌}
-use Prim.Native.Nat.{◌-◌}
 use native.Mathlib.Nat.{zero-add}
-use lib.ListN.{length}
-use Rattle.model.specs.Edges.{standing}
-use Rattle.memory.proofs.Reading.{standing_from, standing_stop, standing_more, standing_end}
+use Rattle.memory.proofs.Reading.{standing_stop, standing_more, standing_end}
 use Rattle.memory.proofs.standing_u64.Goals as goal
 
 pub loop-i-init : goal.loop-i-init

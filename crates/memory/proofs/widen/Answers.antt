@@ -1,20 +1,12 @@
-use mathlib.Core.List.{◌++◌}
-use Prim.Native.Nat.{◌-◌}
-use native.Mathlib.Omega.{arith}
-use lib.ListN.{length, drop}
-use Rattle.memory.proofs.Mix.{Mixed}
 use Rattle.memory.proofs.Copying.{copy_start, copy_turn, copy_end}
 use Rattle.memory.proofs.widen.Goals as goal
 
 pub loop-i-init : goal.loop-i-init
 loop-i-init c = copy_start c.args.from.now _ c.requires
 
-pub overflow_cast-to : goal.overflow_cast-to
-overflow_cast-to c = omega (arith, c.type_inv.from c.loop-i.i)
-
 pub loop-i-preserved : goal.loop-i-preserved
 loop-i-preserved c =
-    copy_turn c.args.from.now _ c.requires c.loop-i.invariant c.loop-i-test.true
+    rw c.from.ensures (copy_turn c.args.from.now _ c.requires c.loop-i.invariant c.loop-i-test.true)
 
 pub shape_of-to : goal.shape_of-to
 shape_of-to c = c.loop-i.invariant.size
