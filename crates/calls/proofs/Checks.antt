@@ -28,6 +28,14 @@ numbered? [] = true
 numbered? ((zero, b) ∷ l) = false
 numbered? ((suc n, b) ∷ l) = numbered? l
 
+-- a list of checks comes to the number that it gives
+pub first_of : (l : List Check) {n : ℕ} → T (numbered? l) → first_refusal l ≡ n → First l n
+unfolding first_refusal
+first_of [] q e = subst (First []) e none
+first_of ((zero, b) ∷ l) q e = absurd q
+first_of ((suc n, true) ∷ l) q e = pass refl (first_of l q e)
+first_of ((suc n, false) ∷ l) q e = subst (First ((suc n, false) ∷ l)) e (stop refl)
+
 -- if none refuses, each passes
 pub data Passed : List Check → Type 0 where
   done : Passed []

@@ -1,12 +1,11 @@
 -- The checks of the header (record) and of edge (leg) memory, with which calls on edges begin.
-use Rattle.std.specs.Prelude.{◌≡◌, List, [], ◌∷◌, ℕ}
+use Rattle.std.specs.Prelude.{◌≡◌, Some, Result, Ok, Err, List, [], ◌∷◌, ℕ}
+use Rattle.model.specs.declared.Refusal.{Refusal}
 use Rattle.model.specs.Replies.{number_of}
 use Rattle.model.specs.Computed.Edges.{edge_memory?}
 use Rattle.edges.specs.Memory.{scan_of}
-use Rattle.edges.specs.declared.Scanned.TheVariants.{Edges as ScannedEdges}
 use Rattle.calls.specs.Checks.{vertices?, longest?, first_refusal}
-use Rattle.checks.specs.declared.Standing.{Standing}
-use Rattle.checks.specs.declared.Standing.TheVariants.{Edges, Refused}
+use Rattle.calls.specs.Call.{Size}
 
 -- "1 2 3"
 unfoldable pub layout_refusal : (vertices longest : ℕ) (edges : List ℕ) → ℕ
@@ -16,8 +15,8 @@ layout_refusal vertices longest edges =
 -- they have passed, and n edges stand
 pub record LayoutPasses (vertices longest : ℕ) (edges : List ℕ) (n : ℕ) : Type 0 where
   pub is : layout_refusal vertices longest edges ≡ 0
-  pub scanned : scan_of vertices edges ≡ ScannedEdges n
+  pub scanned : scan_of vertices edges ≡ Some n
 
-abbrev pub Layouts : (vertices longest : ℕ) (edges : List ℕ) → Standing → Type 0
-Layouts vertices longest edges (Edges n) = LayoutPasses vertices longest edges n
-Layouts vertices longest edges (Refused r) = layout_refusal vertices longest edges ≡ number_of r
+abbrev pub Layouts : (size : Size) (edges : List ℕ) → Result ℕ Refusal → Type 0
+Layouts size edges (Ok n) = LayoutPasses size.vertices size.longest edges n
+Layouts size edges (Err r) = layout_refusal size.vertices size.longest edges ≡ number_of r

@@ -1,2 +1,3 @@
 pub mod Lacking
 pub mod Both
+pub mod Named

@@ -9,76 +9,65 @@ ghost use Rattle.model.specs.Replies.{answer_of};
 ghost use Rattle.calls.specs.Call.{lent};
 ghost use Rattle.calls.specs.Query.{ask_refusal, lacking?};
 ghost use Rattle.calls.specs.QueryTwo.{two_refusal, either_lacks?, both_once?};
-ghost use Rattle.query_checks.specs.SearchChecks.{SearchChecks};
+ghost use Rattle.query_checks.specs.SearchChecks.{named_refusal, SearchChecks};
 
-use checks::Standing;
-use model::{Answer, LEAST_WORK, MOST_LABEL, Refusal};
+use model::{LEAST_WORK, MOST_LABEL, Refusal, Size};
 
-// The checks of a query that come before all memory, in their order: 1, 2, 10 and 11.
-pub fn check(vertices: u32, longest: u32, start: u32, destination: u32, pattern: &[u8]) -> Answer
-    ensures { answer_of result ≡ ask_refusal (record { vertices = vertices; longest = longest }) start destination pattern.now }
+// Checks 10 and 11.
+fn check_named(size: Size, start: u32, destination: u32, pattern: &[u8]) -> Result<(), Refusal>
+    ensures { answer_of result ≡ named_refusal size start destination pattern.now }
 {
-    let header = checks::check_header(vertices, longest);
-    if let Answer::Refused(refusal) = header {
-        return Answer::Refused(refusal);
+    if !checks::are_vertices(size.vertices, start, destination) {
+        return Err(Refusal::QueryEnd);
     }
-    if checks::are_vertices(vertices, start, destination) {
-        if patterns::is_keyed(longest, pattern) {
-            return Answer::Accepted;
-        }
-        return Answer::Refused(Refusal::QueryPattern);
+    if !patterns::is_keyed(size.longest, pattern) {
+        return Err(Refusal::QueryPattern);
     }
-    Answer::Refused(Refusal::QueryEnd)
+    Ok(())
 }
 
-// The checks of the plain check and the route, in their order: 1 2 3 4 10 11.
+// The checks of a query that come before all memory, in their order: 1, 2, 10 and 11.
+pub fn check(size: Size, start: u32, destination: u32, pattern: &[u8]) -> Result<(), Refusal>
+    ensures { answer_of result ≡ ask_refusal size start destination pattern.now }
+{
+    checks::check_size(size)?;
+    check_named(size, start, destination, pattern)
+}
+
+// The checks of the plain check and the route, in their order: 1 2 3 4 10 11. Tells how many edges stand.
 pub fn check_search(
-    vertices: u32,
-    longest: u32,
+    size: Size,
     start: u32,
     destination: u32,
     pattern: &[u8],
     edges: &[u32],
     work: &[u64],
-) -> Standing
-    ensures { SearchChecks (record { vertices = vertices; longest = longest }) start destination pattern.now
-        (lent edges.now [] work.now) result }
+) -> Result<usize, Refusal>
+    ensures { SearchChecks size start destination pattern.now (lent edges.now [] work.now) result }
 {
-    let layout = checks::check_layout(vertices, longest, edges);
-    let Standing::Edges(n) = layout else {
-        return layout;
-    };
+    let n = checks::check_layout(size, edges)?;
     if work.len() < LEAST_WORK {
-        return Standing::Refused(Refusal::WorkMemory);
+        return Err(Refusal::WorkMemory);
     }
-    if checks::are_vertices(vertices, start, destination) {
-        if patterns::is_keyed(longest, pattern) {
-            return Standing::Edges(n);
-        }
-        return Standing::Refused(Refusal::QueryPattern);
-    }
-    Standing::Refused(Refusal::QueryEnd)
+    check_named(size, start, destination, pattern)?;
+    Ok(n)
 }
 
 // The checks of a query by two patterns that come before all memory: 1, 2, 10, 11 of the first pattern, and 11 of the second.
 pub fn check_two(
-    vertices: u32,
-    longest: u32,
+    size: Size,
     start: u32,
     destination: u32,
     first: &[u8],
     second: &[u8],
-) -> Answer
-    ensures { answer_of result ≡ two_refusal (record { vertices = vertices; longest = longest }) start destination first.now second.now }
+) -> Result<(), Refusal>
+    ensures { answer_of result ≡ two_refusal size start destination first.now second.now }
 {
-    let checked = check(vertices, longest, start, destination, first);
-    if let Answer::Refused(refusal) = checked {
-        return Answer::Refused(refusal);
+    check(size, start, destination, first)?;
+    if patterns::is_keyed(size.longest, second) {
+        return Ok(());
     }
-    if patterns::is_keyed(longest, second) {
-        return Answer::Accepted;
-    }
-    Answer::Refused(Refusal::QueryPattern)
+    Err(Refusal::QueryPattern)
 }
 
 // Whether a label of the pattern has total 0 in the record (document 02, Four).
@@ -87,12 +76,10 @@ pub fn is_lacking(totals: [u32; MOST_LABEL], pattern: &[u8]) -> bool
     requires { Keyed most_longest pattern.now }
     ensures { result ≡ lacking? totals pattern.now }
 {
-    let mut i = 0;
-    while i < pattern.len() {
-        if totals[(pattern[i] - 1) as usize] == 0 {
+    for &label in pattern {
+        if totals[label as usize - 1] == 0 {
             return true;
         }
-        i += 1;
     }
     false
 }
@@ -102,10 +89,7 @@ pub fn is_either_lacking(totals: [u32; MOST_LABEL], first: &[u8], second: &[u8])
     requires { Keyed most_longest first.now × Keyed most_longest second.now }
     ensures { result ≡ either_lacks? totals first.now second.now }
 {
-    if is_lacking(totals, first) {
-        return true;
-    }
-    is_lacking(totals, second)
+    is_lacking(totals, first) || is_lacking(totals, second)
 }
 
 // Whether both patterns are written once.
@@ -113,10 +97,5 @@ pub fn are_once(first: &[u8], second: &[u8]) -> bool
     requires { Keyed most_longest first.now × Keyed most_longest second.now }
     ensures { result ≡ both_once? first.now second.now }
 {
-    let out = patterns::minimum_repeat(first);
-    if out.times == 1 {
-        let home = patterns::minimum_repeat(second);
-        return home.times == 1;
-    }
-    false
+    patterns::minimum_repeat(first).times == 1 && patterns::minimum_repeat(second).times == 1
 }

@@ -1,36 +1,32 @@
 -- `checks::check_layout` meets its contract: each return is the first check that does not pass, or all have passed.
-use mathlib.Core.Path.{◌≡◌, sym, ap, ◌∙◌}
+use mathlib.Core.Path.{◌≡◌, sym}
+use mathlib.Core.List.{List}
 use Prim.Native.Nat.{ℕ}
-use Rattle.model.specs.declared.Answer.{Answer}
-use Rattle.model.specs.Replies.{answer_of}
+use Rattle.std.proofs.Common.{rules, Err, Option, Some, None}
+use Rattle.std.specs.Option.{ok_or}
+use Rattle.model.specs.declared.Refusal.TheVariants.{EdgeMemory}
 use Rattle.model.proofs.Replies.{number_some}
+use Rattle.edges.specs.Memory.{scan_of}
 use Rattle.edges.proofs.Memory.{scans, scans_none}
+use Rattle.calls.specs.Call.{Size}
 use Rattle.calls.specs.Checks.{header_refusal}
 use Rattle.calls.proofs.Checks.{none, pass, stop, first_is, header_stop, header_pass}
-use Rattle.checks.specs.LayoutChecks.{layout_refusal}
+use Rattle.checks.specs.LayoutChecks.{layout_refusal, Layouts}
 use Rattle.checks.proofs.check_layout.Goals as goal
 
 -- the record has passed
-header : (vertices longest : ℕ) {result : Answer} → answer_of result ≡ header_refusal vertices longest → result ≡ Answer.Accepted
-    → header_refusal vertices longest ≡ 0
-header vertices longest e is = sym e ∙ ap answer_of is
-
-pub returns-in-Refused : goal.returns-in-Refused
+layouts : (size : Size) (edges : List ℕ) (r : Option ℕ) → header_refusal size.vertices size.longest ≡ 0 → r ≡ scan_of size.vertices edges
+    → Layouts size edges (ok_or r EdgeMemory)
 unfolding layout_refusal
-returns-in-Refused c = first_is (header_stop _ _ (sym c.check_header-header.ensures ∙ ap answer_of c.in-Refused.is) (number_some c.in-Refused.refusal))
+layouts size edges (Some n) h e =
+    record { is = first_is (header_pass _ _ h (pass (scans _ _ (sym e)).memory none)); scanned = sym e }
+layouts size edges None h e = first_is (header_pass _ _ h (stop (scans_none _ _ (sym e))))
 
-pub returns-in_default-scanned : goal.returns-in_default-scanned
+pub returns-in_err-check_size : goal.returns-in_err-check_size
 unfolding layout_refusal
-returns-in_default-scanned c =
-    first_is
-    (header_pass _ _ (header _ _ c.check_header-header.ensures c.in_default.is)
-    (stop (scans_none _ _ (sym c.scan-scanned.ensures ∙ c.in_default-scanned.is))))
+returns-in_err-check_size c =
+    let k : c.from_residual.result ≡ Err c.in_err-check_size.field-0.0 = search rules in
+    rw k (first_is (header_stop _ _ (sym c.in_err-check_size.ensures) (number_some c.in_err-check_size.field-0.0)))
 
 pub returns : goal.returns
-unfolding layout_refusal
-returns c =
-    let scanned = sym c.scan-scanned.ensures ∙ c.in-Edges.is in
-    record {
-      is = first_is (header_pass _ _ (header _ _ c.check_header-header.ensures c.in_default.is) (pass (scans _ _ scanned).memory none));
-      scanned = scanned;
-    }
+returns c = rw c.ok_or.ensures.value (layouts _ _ _ (sym c.in_ok-check_size.ensures) c.scan.ensures)
