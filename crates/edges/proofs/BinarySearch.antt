@@ -1,18 +1,19 @@
--- Binary search among the first edges of a memory, and what is found once both ends meet.
-use mathlib.Core.Path.{◌≡◌, refl, ap}
-use mathlib.Core.Logic.{◌≢◌}
+-- What binary search finds is where the edge belongs.
+use mathlib.Core.Path.{◌≡◌, refl, sym, ap}
 use mathlib.Core.List.{List, [], ◌∷◌}
-use Prim.Native.Nat.{ℕ, zero, suc, ◌+◌, ◌≤◌, ◌<◌, suc-le-suc}
+use Prim.Native.Nat.{ℕ, zero, suc, ◌≤◌, ◌<◌, suc-le-suc}
 use native.Mathlib.Nat.{le_of_suc-le-suc}
 use native.Mathlib.Omega.{arith}
-use lib.ListN.{length, get_or, take}
-use lib.Seq.{get_or-take, length-take-le}
+use lib.ListN.{length, get_or}
 use borrow.Author.Tests.{lt-ltb, le-ltb}
+use Rattle.std.specs.Prelude.{Result, Ok, Err, MatchResult}
+use Rattle.std.specs.Ordering.{nat_cmp}
+use Rattle.std.specs.List.Sorted.{IsBinarySearchResult}
+use Rattle.std.proofs.lemmas.List.Sorted.{searched}
 use Rattle.model.specs.Lists.{Rising}
-use Rattle.model.specs.Computed.Lists.{lower_bound, Bracket}
-use Rattle.model.proofs.BinarySearch.{bracket_start, bracket_right, bracket_left}
+use Rattle.model.specs.Computed.Lists.{lower_bound}
+use Rattle.model.proofs.Lists.{rising_le, rising_lt}
 use Rattle.edges.specs.Memory.{find_of}
-use Rattle.edges.specs.declared.Found.TheVariants.{At, Before}
 use Rattle.edges.proofs.Memory.{find_at, find_before}
 
 bound_is : (x : ℕ) (ys : List ℕ) (k : ℕ) → k ≤ length ys → ((i : ℕ) → i < k → get_or ys i 0 < x) → (k < length ys → x ≤ get_or ys k 0) → lower_bound x ys ≡ k
@@ -23,41 +24,16 @@ bound_is x (y ∷ ys) (suc k) h u a =
     rw (lt-ltb y x (u 0 (omega arith)))
     (ap suc (bound_is x ys k (le_of_suc-le-suc h) (λ i l. u (suc i) (suc-le-suc l)) (λ l. a (suc-le-suc l))))
 
--- edge x is sought among the first n: the two ends bracket its slot
-pub record Sought (edges : List ℕ) (n x lo hi : ℕ) : Type 0 where
-  pub room : n ≤ length edges
-  pub rising : Rising (take n edges)
-  pub high : hi ≤ n
-  pub ends : Bracket (take n edges) x lo hi
+module _ (x : ℕ) (ys : List ℕ) (r : Rising ys) where
+  found : (q : Result ℕ ℕ)
+      → MatchResult q (λ i. (i < length ys) × (get_or ys i 0 ≡ x)) (λ i. (i ≤ length ys) × ((k : ℕ) → k < i → get_or ys k 0 < x) × ((k : ℕ) → i ≤ k → k < length ys → x < get_or ys k 0))
+      → q ≡ find_of x ys
+  found (Ok i) (h, e) =
+      let p = bound_is x ys i (omega arith) (λ k l. omega (arith, rising_lt r k i l h)) (λ _. omega arith) in
+      sym (find_at x ys p h e)
+  found (Err i) (h, below, above) =
+      let p = bound_is x ys i h below (λ l. omega (arith, above i (omega arith) l)) in
+      sym (find_before x ys p (λ l e. omega (arith, above i (omega arith) l)))
 
-pub sought_start : (edges : List ℕ) (n x : ℕ) → n ≤ length edges → Rising (take n edges) → Sought edges n x 0 n
-sought_start edges n x h r =
-    record { room = h; rising = r; high = omega arith; ends = rw (length-take-le n edges h) at (bracket_start (take n edges) x) }
-
-module _ {edges : List ℕ} {n x lo hi : ℕ} (s : Sought edges n x lo hi) where
-  size : length (take n edges) ≡ n
-  size = length-take-le n edges s.room
-
-  slot : (i : ℕ) → i < n → get_or (take n edges) i 0 ≡ get_or edges i 0
-  slot i h = get_or-take n edges i 0 h
-
-  module _ (mid : ℕ) (low : lo ≤ mid) (under : mid < hi) where
-    pub sought_right : get_or edges mid 0 < x → Sought edges n x (mid + 1) hi
-    sought_right l =
-        let e = slot mid (omega (arith, s.high)) in
-        record { room = s.room; rising = s.rising; high = s.high; ends = bracket_right s.rising s.ends mid low under (rw e l) }
-
-    pub sought_left : x ≤ get_or edges mid 0 → Sought edges n x lo mid
-    sought_left l =
-        let e = slot mid (omega (arith, s.high)) in
-        record { room = s.room; rising = s.rising; high = omega (arith, s.high); ends = bracket_left s.rising s.ends mid low under (rw e l) }
-
-  module _ (met : hi ≤ lo) where
-    place : lower_bound x (take n edges) ≡ lo
-    place = bound_is x (take n edges) lo (omega (arith, s.ends.met, s.ends.most)) s.ends.under (λ h. s.ends.above lo met h)
-
-    pub sought_at : lo < n → get_or edges lo 0 ≡ x → find_of x (take n edges) ≡ At lo
-    sought_at h q = find_at x (take n edges) place (omega (arith, size)) (rw (slot lo h) q)
-
-    pub sought_before : (lo < n → get_or edges lo 0 ≢ x) → find_of x (take n edges) ≡ Before lo
-    sought_before f = find_before x (take n edges) place (λ h q. let l : lo < n = omega (arith, size) in f l (rw (slot lo l) at q))
+  pub binary_finds : (q : Result ℕ ℕ) → IsBinarySearchResult (λ y. nat_cmp y x) ys q → q ≡ find_of x ys
+  binary_finds q h = found q (searched ys x q h (rising_le r))

@@ -19,9 +19,8 @@ use Rattle.model.proofs.Insertion.{placed, placed_most, placed_stands}
 use Rattle.model.proofs.Memory.{edge_memory}
 pub use Rattle.model.proofs.Insertion.{length_insert, member_insert, rising_insert, length_remove, member_remove, rising_remove}
 use Rattle.model.proofs.Zeros.{filled_within, filled_front}
+use Rattle.std.specs.Prelude.{Some, None, Ok, Err}
 use Rattle.edges.specs.Memory.{scan_of, find_of, Holds}
-use Rattle.edges.specs.declared.Scanned.TheVariants.{Edges, Invalid}
-use Rattle.edges.specs.declared.Found.TheVariants.{At, Before}
 
 -- ---- check 3
 
@@ -43,15 +42,15 @@ module _ {xs : List ℕ} {n : ℕ} (h : Holds xs n) where
   pub holds_front : take n xs ≡ standing xs
   holds_front = rw h.count (filled_front (standing xs) h.zeros)
 
-one_result : {A : Type 0} {n : ℕ} → Edges n ≡ Invalid → A
+one_result : {A : Type 0} {n : ℕ} → Some n ≡ None → A
 one_result e = absurd (let z : ◌≡◌ {A = ℕ} 0 1 = cc in omega arith)
 
 module _ (vertices : ℕ) (xs : List ℕ) where
-  pub scans : {n : ℕ} → scan_of vertices xs ≡ Edges n → Scans vertices xs n
+  pub scans : {n : ℕ} → scan_of vertices xs ≡ Some n → Scans vertices xs n
   unfolding scan_of
   scans {n} e = both_ways (edge_memory? vertices xs) (λ t. given t (rw t at e)) (λ t. one_result (sym (rw t at e)))
     where
-      given : edge_memory? vertices xs ≡ true → Edges (length (standing xs)) ≡ Edges n → Scans vertices xs n
+      given : edge_memory? vertices xs ≡ true → Some (length (standing xs)) ≡ Some n → Scans vertices xs n
       given t e =
           let (few, o) = edge_memory vertices xs t in
           let c : n ≡ length (standing xs) = cc in
@@ -67,7 +66,7 @@ module _ (vertices : ℕ) (xs : List ℕ) where
             edges = λ x m. (o.each x m).1;
           }
 
-  pub scans_none : scan_of vertices xs ≡ Invalid → edge_memory? vertices xs ≡ false
+  pub scans_none : scan_of vertices xs ≡ None → edge_memory? vertices xs ≡ false
   unfolding scan_of
   scans_none e = both_ways (edge_memory? vertices xs) (λ t. one_result (rw t at e)) (λ t. t)
 
@@ -87,11 +86,11 @@ pub record Lacks (x : ℕ) (ys : List ℕ) (i : ℕ) : Type 0 where
   pub absent : ¬ (x ∈ ys)
 
 module _ (x : ℕ) (ys : List ℕ) where
-  pub find_at : {i : ℕ} → lower_bound x ys ≡ i → i < length ys → get_or ys i 0 ≡ x → find_of x ys ≡ At i
+  pub find_at : {i : ℕ} → lower_bound x ys ≡ i → i < length ys → get_or ys i 0 ≡ x → find_of x ys ≡ Ok i
   unfolding find_of
   find_at {i} e h q = rw (e, lt-ltb i (length ys) h, eq-eqb (get_or ys i 0) x q)
 
-  pub find_before : {i : ℕ} → lower_bound x ys ≡ i → (i < length ys → get_or ys i 0 ≢ x) → find_of x ys ≡ Before i
+  pub find_before : {i : ℕ} → lower_bound x ys ≡ i → (i < length ys → get_or ys i 0 ≢ x) → find_of x ys ≡ Err i
   unfolding find_of
   find_before {i} e n = elim (dec_lt i (length ys)) [
     | yes l ↦ rw (e, lt-ltb i (length ys) l, ne_eqb (get_or ys i 0) x (n l))
@@ -99,10 +98,10 @@ module _ (x : ℕ) (ys : List ℕ) where
   ]
 
   -- a lookup that finds one does not find the other
-  one_way : {A : Type 0} {i j : ℕ} → find_of x ys ≡ At i → find_of x ys ≡ Before j → A
+  one_way : {A : Type 0} {i j : ℕ} → find_of x ys ≡ Ok i → find_of x ys ≡ Err j → A
   one_way p q = absurd (let z : ◌≡◌ {A = ℕ} 0 1 = cc in omega arith)
 
-  pub stands : {i : ℕ} → find_of x ys ≡ At i → Stands x ys i
+  pub stands : {i : ℕ} → find_of x ys ≡ Ok i → Stands x ys i
   stands {i} e = elim (test_dec (test_and (test_lt (lower_bound x ys) (length ys)) (test_eq (get_or ys (lower_bound x ys) 0) x))) [
     | yes (l, q) ↦
         let f = find_at refl l q in
@@ -111,7 +110,7 @@ module _ (x : ℕ) (ys : List ℕ) where
     | no d ↦ one_way e (find_before refl (λ l q. d (l, q)))
   ]
 
-  pub lacks : {i : ℕ} → Rising ys → find_of x ys ≡ Before i → Lacks x ys i
+  pub lacks : {i : ℕ} → Rising ys → find_of x ys ≡ Err i → Lacks x ys i
   lacks {i} r e =
       let f = find_before refl (λ l q. one_way (find_at refl l q) e) in
       let p : i ≡ lower_bound x ys = cc in

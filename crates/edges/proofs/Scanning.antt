@@ -5,19 +5,18 @@ use Prim.Native.Nat.{ℕ, ◌≤◌, ◌<◌}
 use native.Mathlib.Nat.{zero-add}
 use lib.ListN.{length}
 use borrow.Author.Tests.{le-leb, lt-leb}
+use Rattle.std.specs.Prelude.{Option, Some, None}
 use Rattle.model.specs.Limits.{most_edges}
 use Rattle.model.specs.Computed.Edges.{edge?, rising_edges?, edge_memory?}
 use Rattle.model.proofs.Checked.{checked_from}
 use Rattle.edges.specs.Memory.{scan_of}
-use Rattle.edges.specs.declared.Scanned.{Scanned}
-use Rattle.edges.specs.declared.Scanned.TheVariants.{Edges, Invalid}
 
 -- what check 3 finds if i edges stand before s, the last of them prev
-abbrev pub scan_from : ℕ → ℕ → ℕ → List ℕ → Scanned
-scan_from vertices prev i s = checked_from Edges Invalid (edge? vertices) prev i s
+abbrev pub scan_from : ℕ → ℕ → ℕ → List ℕ → Option ℕ
+scan_from vertices prev i s = checked_from Some None (edge? vertices) prev i s
 
 module _ (vertices : ℕ) (s : List ℕ) where
-  pub scan_long : most_edges < length s → scan_of vertices s ≡ Invalid
+  pub scan_long : most_edges < length s → scan_of vertices s ≡ None
   unfolding scan_of edge_memory?
   scan_long h = rw (lt-leb (length s) most_edges h)
 

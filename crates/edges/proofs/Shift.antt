@@ -1,154 +1,118 @@
--- The loops of `insert` and `remove`: what stands at each slot once an edge is put in or taken out.
-use mathlib.Core.Path.{◌≡◌, refl, sym, ap, ◌∙◌}
-use mathlib.Core.List.{List, [], ◌∷◌, ◌++◌}
+-- What the rotations of `insert` and `remove` leave: an edge is put in or taken out, and zeros are behind.
+use mathlib.Core.Path.{◌≡◌, refl, sym, ap, subst, ◌∙◌}
+use mathlib.Core.List.{List, [], ◌∷◌, ◌++◌, append_assoc}
 use Prim.Native.Nat.{ℕ, zero, suc, ◌+◌, ◌-◌, ◌≤◌, ◌<◌}
-use native.Mathlib.Nat.{le_of_suc-le-suc, not-suc-le-zero}
-use native.Mathlib.Numerals.{add-one}
+use native.Mathlib.Nat.{le_of_suc-le-suc, not-suc-le-zero, suc-sub-suc}
 use native.Mathlib.Omega.{arith}
-use lib.ListN.{length, get_or, set, replicate, get_or-eq_default}
+use borrow.Rule.Slice.PartMut.{mid_of, put_mid}
+use native.Mathlib.Numerals.{unary_clauses}
+use lib.ListN.{length, get_or, set, take, drop, replicate, length-set, length-drop, drop_of_length-le}
+use lib.Seq.{drop-cons, length-take-le, get_or-set_same, get_or-take}
+use Rattle.std.specs.List.{remove}
+use Rattle.std.proofs.lemmas.List.{take-replicate, replicate_more, set_at, take-set, drop-set-lt}
+use Rattle.std.proofs.lemmas.List.Edits.{remove-append_left, length-remove}
+use Rattle.std.proofs.lemmas.Slice.{put_mid-rotated}
 use Rattle.model.specs.Lists.{filled}
 use Rattle.model.specs.Edges.{standing}
 use Rattle.model.specs.Computed.Edges.{insert_edge, remove_edge}
-use Rattle.model.proofs.Lists.{get_d_in}
+use Rattle.model.proofs.Lists.{part_all, part_last}
+use Rattle.model.proofs.Zeros.{filled_within, filled_front}
 use Rattle.model.proofs.Insertion.{Placed, last, here, past, placed, placed_most, Removed, first, later, removed}
-use Rattle.model.proofs.Memory.{length_filled}
-use Rattle.edges.specs.Memory.{Holds, Insertable, Removable}
-use Rattle.edges.proofs.Memory.{holds_within, length_insert, length_remove}
-use Rattle.memory.proofs.Mix.{Mixed, front_start, front_turn, front_end, back_start, back_turn, back_end}
-
--- a slot past the last number reads 0, and so do the zeros there
-filled_slot : (m : ℕ) (l : List ℕ) (i : ℕ) → get_or (filled m l) i 0 ≡ get_or l i 0
-filled_slot m l i = go l (m - length l) i
-  where
-    go : (l : List ℕ) (m i : ℕ) → get_or (l ++ replicate m 0) i 0 ≡ get_or l i 0
-    go [] zero i = refl
-    go [] (suc m) zero = refl
-    go [] (suc m) (suc i) = go [] m i
-    go (x ∷ l) m zero = refl
-    go (x ∷ l) m (suc i) = go l m i
-
--- edge memory xs of n edges
-module _ {xs : List ℕ} {n : ℕ} (h : Holds xs n) where
-  slot : (i : ℕ) → get_or xs i 0 ≡ get_or (standing xs) i 0
-  slot i = ap (λ (l : List ℕ). get_or l i 0) h.zeros ∙ filled_slot (length xs) (standing xs) i
-
-  -- it becomes edge memory of the edges zs: a slot that has moved, and the zeros behind both
-  module _ (zs : List ℕ) where
-    moved : (i j : ℕ) → get_or (standing xs) i 0 ≡ get_or zs j 0 → get_or xs i 0 ≡ get_or (filled (length xs) zs) j 0
-    moved i j e = slot i ∙ e ∙ sym (filled_slot (length xs) zs j)
-
-    rest : (i : ℕ) → n ≤ i → length zs ≤ i → get_or xs i 0 ≡ get_or (filled (length xs) zs) i 0
-    rest i k l = moved i i (get_or-eq_default (standing xs) 0 (rw h.count at k) ∙ sym (get_or-eq_default zs 0 l))
+use Rattle.edges.specs.Memory.{Insertable, Removable}
 
 -- ---- the insertion
 
-module _ {x : ℕ} where
-  placed_at : {ys zs : List ℕ} {k : ℕ} → Placed x ys k zs → get_or zs k 0 ≡ x
-  placed_at last = refl
-  placed_at (here l) = refl
-  placed_at (past l p) = placed_at p
+-- fewer slots, as long as the numbers fit
+take_filled : (n m : ℕ) (l : List ℕ) → length l ≤ n → n ≤ m → take n (filled m l) ≡ filled n l
+take_filled n m [] h k = simp unary_clauses (take-replicate {X = ℕ} n m 0 k)
+take_filled zero m (x ∷ l) h k = absurd (omega arith)
+take_filled (suc n) zero (x ∷ l) h k = absurd (omega arith)
+take_filled (suc n) (suc m) (x ∷ l) h k =
+    simp unary_clauses (ap (λ (z : List ℕ). x ∷ z) (take_filled n m l (le_of_suc-le-suc h) (le_of_suc-le-suc k)))
 
-  placed_before : {ys zs : List ℕ} {k : ℕ} → Placed x ys k zs → (i : ℕ) → i < k → get_or ys i 0 ≡ get_or zs i 0
-  placed_before last i h = absurd (not-suc-le-zero h)
-  placed_before (here l) i h = absurd (not-suc-le-zero h)
-  placed_before (past l p) zero h = refl
-  placed_before (past l p) (suc i) h = placed_before p i (le_of_suc-le-suc h)
+-- x goes in at its slot, and the last slot falls off
+filled_in : {x : ℕ} {ys zs : List ℕ} {k : ℕ} → Placed x ys k zs → (m : ℕ) → length ys < m
+    → take k (filled m ys) ++ x ∷ take (m - suc k) (drop k (filled m ys)) ≡ filled m zs
+filled_in p zero h = absurd (not-suc-le-zero h)
+filled_in {x} last (suc m) h =
+    let none : suc m - 0 ≡ suc m = omega arith in
+    let one : suc m - 1 ≡ m = omega arith in
+    rw (none, one) (ap (λ (z : List ℕ). x ∷ z) (take-replicate {X = ℕ} m (suc m) 0 (omega arith)))
+filled_in {x} (here {y = y} {ys = ys} l) (suc m) h =
+    let one : suc m - 1 ≡ m = omega arith in
+    let less : suc m - suc (suc (length ys)) ≡ m - suc (length ys) = omega arith in
+    rw (one, less) (ap (λ (z : List ℕ). x ∷ z) (take_filled m (suc m) (y ∷ ys) (omega arith) (omega arith)))
+filled_in (past {y = y} l p) (suc m) h = simp suc-sub-suc (ap (λ (z : List ℕ). y ∷ z) (filled_in p m (le_of_suc-le-suc h)))
 
-  placed_after : {ys zs : List ℕ} {k : ℕ} → Placed x ys k zs → (i : ℕ) → k ≤ i → get_or ys i 0 ≡ get_or zs (suc i) 0
-  placed_after last i h = refl
-  placed_after (here l) i h = refl
-  placed_after (past l p) zero h = absurd (not-suc-le-zero h)
-  placed_after (past l p) (suc i) h = placed_after p i (le_of_suc-le-suc h)
+-- what a rotation to the right and a write leave
+rotated : (xs : List ℕ) (at x : ℕ) (ys : List ℕ) → at < length xs
+    → ys ≡ drop (length (mid_of at (length xs - at) xs) - 1) (mid_of at (length xs - at) xs) ++ take (length (mid_of at (length xs - at) xs) - 1) (mid_of at (length xs - at) xs)
+    → set (put_mid at (length xs - at) xs ys) at x ≡ take at xs ++ x ∷ take (length xs - suc at) (drop at xs)
+rotated xs at x ys h e =
+    let p : List ℕ = drop at xs in
+    let n : ℕ = length xs - suc at in
+    let long : length p ≡ suc n = omega (arith, length-drop at xs) in
+    let last : length p - 1 ≡ n = omega arith in
+    let front : ys ≡ drop n p ++ take n p = rw (part_all xs at, last) at e in
+    let one : drop n p ≡ get_or p n 0 ∷ [] = drop-cons p n 0 (omega arith) ∙ rw ((let l : length p ≤ suc n = omega arith in drop_of_length-le p l)) refl in
+    rw (part_last xs ys at, front, one) (set_at (take at xs) (get_or p n 0) (take n p) x at (length-take-le at xs (omega arith)))
 
--- what `insert` leaves
-abbrev pub inserted : List ℕ → ℕ → List ℕ
-inserted xs x = filled (length xs) (insert_edge x (standing xs))
-
-module _ {xs : List ℕ} {n at x : ℕ} (r : Insertable xs n at x) where
-  abbrev more : List ℕ
-  more = insert_edge x (standing xs)
-
-  goes_in : Placed x (standing xs) at more
+module _ {xs : List ℕ} {at x : ℕ} (r : Insertable xs at x) where
+  goes_in : Placed x (standing xs) at (insert_edge x (standing xs))
   goes_in = rw r.place (placed x (standing xs))
 
-  one_more : length more ≡ suc n
-  one_more = length_insert x (standing xs) ∙ ap suc (sym r.holds.count)
+  pub insert_most : at < length xs
+  insert_most = omega (arith, placed_most goes_in, r.room)
 
-  pub insert_most : at ≤ n
-  insert_most = rw r.holds.count (placed_most goes_in)
-
-  -- above slot i the memory is as it will be
-  pub insert_start : Mixed xs (inserted xs x) xs (n + 1)
-  insert_start =
-      back_start (n + 1) (sym (length_filled (length xs) more (rw one_more r.room)))
-      (λ i h. rest r.holds more i (omega arith) (omega (arith, one_more)))
-
-  module _ {cur : List ℕ} {i : ℕ} (m : Mixed xs (inserted xs x) cur (i + 1)) where
-    pub insert_turn : at < i → i ≤ n → Mixed xs (inserted xs x) (set cur i (get_or cur (i - 1) 0)) (i - 1 + 1)
-    insert_turn h k =
-        let e : suc (i - 1) ≡ i = omega arith in
-        back_turn m i refl (omega arith) (omega (arith, r.room))
-        (m.front (i - 1) (omega arith) ∙ moved r.holds more (i - 1) i (rw e at (placed_after goes_in (i - 1) (omega arith))))
-
-    pub insert_end : at ≤ i → i ≤ at → set cur at x ≡ inserted xs x
-    insert_end l h =
-        let e : x ≡ get_or (inserted xs x) at 0 = sym (filled_slot (length xs) more at ∙ placed_at goes_in) in
-        let done : Mixed xs (inserted xs x) (set cur at x) at = back_turn m at (omega arith) refl (omega (arith, r.room, insert_most)) e in
-        back_end done (λ k u. moved r.holds more k k (placed_before goes_in k u))
+  pub insert_rotated : (ys : List ℕ)
+      → ys ≡ drop (length (mid_of at (length xs - at) xs) - 1) (mid_of at (length xs - at) xs) ++ take (length (mid_of at (length xs - at) xs) - 1) (mid_of at (length xs - at) xs)
+      → set (put_mid at (length xs - at) xs ys) at x ≡ filled (length xs) (insert_edge x (standing xs))
+  insert_rotated ys e =
+      rotated xs at x ys insert_most e
+      ∙ subst (λ (l : List ℕ). take at l ++ x ∷ take (length xs - suc at) (drop at l) ≡ filled (length xs) (insert_edge x (standing xs))) (sym r.zeros) (filled_in goes_in (length xs) r.room)
 
 -- ---- the removal
 
 module _ {x : ℕ} where
-  removed_before : {ys zs ws : List ℕ} {k : ℕ} → Placed x ys k ws → Removed x ys zs → (i : ℕ) → i < k → get_or ys i 0 ≡ get_or zs i 0
-  removed_before last q i h = absurd (not-suc-le-zero h)
-  removed_before (here l) q i h = absurd (not-suc-le-zero h)
-  removed_before (past l p) (first e) i h = absurd (omega arith)
-  removed_before (past l p) (later d q) zero h = refl
-  removed_before (past l p) (later d q) (suc i) h = removed_before p q i (le_of_suc-le-suc h)
+  removed_at : {ys zs ws : List ℕ} {k : ℕ} → Placed x ys k ws → Removed x ys zs → k < length ys → get_or ys k 0 ≡ x → remove ys k ≡ zs
+  removed_at last q u t = absurd (not-suc-le-zero u)
+  removed_at (here l) (first e) u t = refl
+  removed_at (here l) (later d q) u t = absurd (d t)
+  removed_at (past l p) (first e) u t = absurd (omega arith)
+  removed_at (past {y = y} l p) (later d q) u t = ap (λ (z : List ℕ). y ∷ z) (removed_at p q (le_of_suc-le-suc u) t)
 
-  removed_after : {ys zs ws : List ℕ} {k : ℕ} → Placed x ys k ws → Removed x ys zs → k < length ys → get_or ys k 0 ≡ x
-      → (i : ℕ) → k ≤ i → get_or ys (suc i) 0 ≡ get_or zs i 0
-  removed_after last q u t i h = absurd (not-suc-le-zero u)
-  removed_after (here l) (first e) u t i h = refl
-  removed_after (here l) (later d q) u t i h = absurd (d t)
-  removed_after (past l p) (first e) u t i h = absurd (omega arith)
-  removed_after (past l p) (later d q) u t zero h = absurd (not-suc-le-zero h)
-  removed_after (past l p) (later d q) u t (suc i) h = removed_after p q (le_of_suc-le-suc u) t i (le_of_suc-le-suc h)
+-- a slot that falls off, and a zero behind
+filled_out : (m k : ℕ) (ys : List ℕ) → k < length ys → length ys ≤ m → remove (filled m ys) k ++ 0 ∷ [] ≡ filled m (remove ys k)
+filled_out m k ys h l =
+    let n : m - length (remove ys k) ≡ m - length ys + 1 = omega (arith, length-remove ys k h) in
+    rw (remove-append_left ys (replicate (m - length ys) 0) k h, n, append_assoc, replicate_more {X = ℕ} (m - length ys) 0) refl
 
--- what `remove` leaves
-abbrev pub without : List ℕ → ℕ → List ℕ
-without xs x = filled (length xs) (remove_edge x (standing xs))
+module _ {xs : List ℕ} {at : ℕ} (r : Removable xs at) where
+  abbrev x : ℕ
+  x = get_or xs at 0
 
-module _ {xs : List ℕ} {n at x : ℕ} (r : Removable xs n at x) where
-  abbrev fewer : List ℕ
-  fewer = remove_edge x (standing xs)
+  within : length (standing xs) ≤ length xs
+  within = filled_within (standing xs) r.zeros
 
-  within : at < length (standing xs)
-  within = rw (← r.holds.count) r.inside
+  pub remove_most : at < length xs
+  remove_most = omega (arith, r.inside, within)
 
   there : get_or (standing xs) at 0 ≡ x
-  there = sym (slot r.holds at) ∙ r.there
+  there = rw (filled_front (standing xs) r.zeros) at (get_or-take (length (standing xs)) xs at 0 r.inside)
 
   stood : Placed x (standing xs) at (insert_edge x (standing xs))
-  stood = rw r.place (placed x (standing xs))
+  stood = subst (λ (k : ℕ). Placed x (standing xs) k (insert_edge x (standing xs))) (sym r.place) (placed x (standing xs))
 
-  one_fewer : suc (length fewer) ≡ n
-  one_fewer = length_remove x (standing xs) (rw there at (get_d_in (standing xs) at within)) ∙ sym r.holds.count
+  taken : remove (standing xs) at ≡ remove_edge x (standing xs)
+  taken = removed_at stood (removed x (standing xs)) r.inside there
 
-  -- before slot i the memory is as it will be
-  pub remove_start : Mixed (without xs x) xs xs at
-  remove_start =
-      front_start at (length_filled (length xs) fewer (omega (arith, one_fewer, holds_within r.holds)))
-      (λ i h. moved r.holds fewer i i (removed_before stood (removed x (standing xs)) i h))
-
-  module _ {cur : List ℕ} {i : ℕ} (m : Mixed (without xs x) xs cur i) where
-    pub remove_turn : at ≤ i → i < n - 1 → Mixed (without xs x) xs (set cur i (get_or cur (i + 1) 0)) (i + 1)
-    remove_turn l h =
-        let e = moved r.holds fewer (suc i) i (removed_after stood (removed x (standing xs)) within there i l) in
-        front_turn m (omega (arith, holds_within r.holds)) (m.back (i + 1) (omega arith) ∙ rw add-one e)
-
-    pub remove_end : i < n → n - 1 ≤ i → set cur i 0 ≡ without xs x
-    remove_end l h =
-        let e = filled_slot (length xs) fewer i ∙ get_or-eq_default fewer 0 (omega (arith, one_fewer)) in
-        front_end (front_turn m (omega (arith, holds_within r.holds)) (sym e))
-        (λ k u _. rest r.holds fewer k (omega arith) (omega (arith, one_fewer)))
+  pub remove_rotated : (ys : List ℕ)
+      → ys ≡ drop 1 (mid_of at (length (set xs at 0) - at) (set xs at 0)) ++ take 1 (mid_of at (length (set xs at 0) - at) (set xs at 0))
+      → put_mid at (length (set xs at 0) - at) (set xs at 0) ys ≡ filled (length xs) (remove_edge x (standing xs))
+  remove_rotated ys e =
+      let n : length (set xs at 0) ≡ length xs = length-set xs at 0 in
+      let h : at < length xs = remove_most in
+      let same : remove (set xs at 0) at ≡ remove xs at = rw (take-set xs at 0, drop-set-lt (suc at) xs at 0 (omega arith)) refl in
+      let end : get_or (set xs at 0) at 0 ≡ 0 = get_or-set_same xs at 0 0 h in
+      put_mid-rotated at (length (set xs at 0) - at) (set xs at 0) ys 0 (omega arith) (omega arith) e
+      ∙ rw (same, end) (subst (λ (l : List ℕ). remove l at ++ 0 ∷ [] ≡ filled (length xs) (remove_edge x (standing xs))) (sym r.zeros) (rw (← taken) (filled_out (length xs) at (standing xs) r.inside within)))

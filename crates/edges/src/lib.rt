@@ -1,157 +1,97 @@
 // Edge memory: the numbers of edges, check 3, lookup, the slot where a vertex's edges start, insertion and removal.
 #![tactic(auto)]
 
-ghost use Rattle.std.specs.Prelude.{◌≡◌, ◌/◌, ◌≤◌, ◌<◌, length, take};
-ghost use Rattle.model.specs.Limits.{most_vertices, from_unit, label_unit};
+ghost use Rattle.std.specs.Prelude.{◌≡◌, ◌≤◌, length, get_or};
+ghost use Rattle.model.specs.Limits.{most_vertices};
 ghost use Rattle.model.specs.Lists.{Rising, filled};
-ghost use Rattle.model.specs.Edges.{edge_number, standing};
+ghost use Rattle.model.specs.Edges.{standing};
 ghost use Rattle.model.specs.Computed.Edges.{edge?, insert_edge, remove_edge};
 ghost use Rattle.edges.specs.Memory.{scan_of, find_of, Insertable, Removable};
 ghost use Rattle.edges.specs.Slots.{Under, Skipped, Starts};
 
-use model::{FROM_UNIT, LABEL_UNIT, LABELS, MOST_EDGES, MOST_VERTICES};
+use model::{Edge, FROM_UNIT, MOST_EDGES, MOST_VERTICES};
 
 const MOST_LABEL: u32 = model::MOST_LABEL as u32;
-
-// What check 3 finds: how many edges stand, or that this is no edge memory of the graph.
-#[derive(Clone, Copy)]
-pub enum Scanned {
-    Edges(usize),
-    Invalid,
-}
-
-// Where an edge stands, or the slot before which it belongs.
-#[derive(Clone, Copy)]
-pub enum Found {
-    At(usize),
-    Before(usize),
-}
-
-pub fn edge_number(from: u32, label: u32, to: u32) -> u32
-    requires { (from < most_vertices) × ((label < from_unit / label_unit) × (to < label_unit)) }
-    ensures { result ≡ edge_number from label to }
-{
-    from * FROM_UNIT + label * LABEL_UNIT + to
-}
 
 pub fn is_edge(vertices: u32, x: u32) -> bool
     ensures { result ≡ edge? vertices x }
 {
-    if vertices <= x / FROM_UNIT {
-        return false;
-    }
-    let label = x / LABEL_UNIT % LABELS;
-    if label < 1 {
-        return false;
-    }
-    if MOST_LABEL < label {
-        return false;
-    }
-    x % LABEL_UNIT < vertices
+    let edge = Edge::from(x);
+    edge.from < vertices && 1 <= edge.label && edge.label <= MOST_LABEL && edge.to < vertices
 }
 
-// Check 3, in one pass.
-pub fn scan(vertices: u32, edges: &[u32]) -> Scanned
+// Check 3, in one pass: how many edges stand, if this is edge memory of the graph.
+#[tactic(auto, using(crate::proofs::Scanning::scan_long, crate::proofs::Scanning::scan_start))]
+pub fn scan(vertices: u32, edges: &[u32]) -> Option<usize>
     ensures { result ≡ scan_of vertices edges.now }
 {
     if MOST_EDGES < edges.len() {
-        return Scanned::Invalid;
+        return None;
     }
-    let mut i = 0;
-    let mut prev: u32 = 0;
-    while i < edges.len() {
-        let x = edges[i];
+    let mut prev = 0;
+    for (i, &x) in edges.iter().enumerate() {
         if x <= prev {
-            if memory::all_zero_u32(&edges[i..]) {
-                return Scanned::Edges(i);
-            }
-            return Scanned::Invalid;
+            return memory::all_zero_u32(&edges[i..]).then_some(i);
         }
-        if is_edge(vertices, x) {
-            prev = x;
-            i += 1;
-        } else {
-            return Scanned::Invalid;
+        if !is_edge(vertices, x) {
+            return None;
         }
+        prev = x;
     }
-    Scanned::Edges(i)
+    Some(edges.len())
 }
 
-// Where an edge stands among the first n, by binary search.
-pub fn find(edges: &[u32], n: usize, edge: u32) -> Found
-    requires { (n ≤ length edges.now) × Rising (take n edges.now) }
-    ensures { result ≡ find_of edge (take n edges.now) }
+// Where an edge stands among those that stand, or the slot before which it belongs.
+pub fn find(edges: &[u32], edge: u32) -> Result<usize, usize>
+    requires { Rising edges.now }
+    ensures { result ≡ find_of edge edges.now }
 {
-    let mut lo = 0;
-    let mut hi = n;
-    while lo < hi {
-        let mid = lo + (hi - lo) / 2;
-        if edges[mid] < edge {
-            lo = mid + 1;
-        } else {
-            hi = mid;
-        }
-    }
-    if lo < n {
-        if edges[lo] == edge {
-            return Found::At(lo);
-        }
-    }
-    Found::Before(lo)
+    edges.binary_search(&edge)
 }
 
-// The first slot from `from` on whose edge is at least key.
+// The first slot from `from` on whose edge is at least key. It is mostly near, so the slots are looked at in their order.
 pub fn skip(edges: &[u32], from: usize, key: u32) -> usize
     requires { Under edges.now key from }
     ensures { Skipped edges.now key result }
 {
-    let mut i = from;
-    while i < edges.len() {
+    for i in from..edges.len() {
         if key <= edges[i] {
             return i;
         }
-        i += 1;
     }
-    i
+    edges.len()
 }
 
 // For each vertex, the slot where its edges start, so that a search looks at a vertex's own edges only.
+#[tactic(auto, using(crate::proofs::Slots::under_up, crate::proofs::Slots::starts_set))]
 pub fn first_slots(vertices: u32, edges: &[u32]) -> [usize; MOST_VERTICES]
     requires { vertices ≤ most_vertices }
     ensures { Starts edges.now result }
 {
     let mut slots = [0usize; MOST_VERTICES];
-    let mut i = 0;
-    let mut v: u32 = 0;
-    while v < vertices {
-        i = skip(edges, i, v * FROM_UNIT);
-        slots[v as usize] = i;
-        v += 1;
+    let mut first = 0;
+    for v in 0..vertices {
+        first = skip(edges, first, v * FROM_UNIT);
+        slots[v as usize] = first;
     }
     slots
 }
 
-pub fn insert(edges: &mut [u32], n: usize, at: usize, edge: u32)
-    requires { Insertable edges.old n at edge }
+// The last slot, which is free, comes to `at`.
+#[tactic(auto, using(crate::proofs::Shift::insert_most))]
+pub fn insert(edges: &mut [u32], at: usize, edge: u32)
+    requires { Insertable edges.old at edge }
     ensures { edges.new ≡ filled (length edges.old) (insert_edge edge (standing edges.old)) }
 {
-    let mut i = n;
-    while at < i {
-        edges[i] = edges[i - 1];
-        i -= 1;
-    }
+    edges[at..].rotate_right(1);
     edges[at] = edge;
 }
 
-pub fn remove(edges: &mut [u32], n: usize, at: usize, edge: u32)
-    requires { Removable edges.old n at edge }
-    ensures { edges.new ≡ filled (length edges.old) (remove_edge edge (standing edges.old)) }
+// The slot goes behind all others, as a free one.
+pub fn remove(edges: &mut [u32], at: usize)
+    requires { Removable edges.old at }
+    ensures { edges.new ≡ filled (length edges.old) (remove_edge (get_or edges.old at 0) (standing edges.old)) }
 {
-    let mut i = at;
-    let last = n - 1;
-    while i < last {
-        edges[i] = edges[i + 1];
-        i += 1;
-    }
-    edges[i] = 0;
+    edges[at] = 0;
+    edges[at..].rotate_left(1);
 }
