@@ -31,7 +31,7 @@ pub fn scan(vertices: u32, edges: &[u32]) -> Option<usize>
     let mut prev = 0;
     for (i, &x) in edges.iter().enumerate() {
         if x <= prev {
-            return memory::all_zero_u32(&edges[i..]).then_some(i);
+            return memory::all_zero(&edges[i..]).then_some(i);
         }
         if !is_edge(vertices, x) {
             return None;

@@ -34,7 +34,7 @@ pub loop-i-preserved : goal.loop-i-preserved
 loop-i-preserved c = onward _ _ _ _ c.loop-i.invariant true c.loop-i-test.true c.if-x-prev.false (sym c.is_edge.ensures ∙ c.if-not-is_edge.false)
 
 pub returns-then-x-prev : goal.returns-then-x-prev
-returns-then-x-prev c = c.then_some.ensures ∙ some_if c.all_zero_u32.result c.loop-i.i ∙ rest _ _ _ _ c.loop-i.invariant c.all_zero_u32.result c.if-x-prev.true (sym c.all_zero_u32.ensures)
+returns-then-x-prev c = c.then_some.ensures ∙ some_if c.all_zero.result c.loop-i.i ∙ rest _ _ _ _ c.loop-i.invariant c.all_zero.result c.if-x-prev.true (sym c.all_zero.ensures)
 
 pub returns-then-not-is_edge : goal.returns-then-not-is_edge
 returns-then-not-is_edge c = onward _ _ _ _ c.loop-i.invariant false c.loop-i-test.true c.if-x-prev.false (sym c.is_edge.ensures ∙ c.if-not-is_edge.true)
