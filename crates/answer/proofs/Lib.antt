@@ -1,2 +1,4 @@
 pub mod Joining
+pub mod Finding
+pub mod Parts
 pub mod Answering

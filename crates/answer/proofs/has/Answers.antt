@@ -1,10 +1,7 @@
--- `answer::has` meets its contract: an entry stands at the slot where it belongs, or nowhere.
-use mathlib.Core.Path.{sym}
-use Rattle.model.proofs.BinarySearch.{has_at, has_none}
+-- `answer::has` meets its contract.
+use mathlib.Core.Path.{◌∙◌}
+use Rattle.answer.proofs.Finding.{found_member}
 use Rattle.answer.proofs.has.Goals as goal
 
-pub returns-then-i-index : goal.returns-then-i-index
-returns-then-i-index c = has_at c.requires c.lower_bound-i.ensures c.if-i-index.true
-
 pub returns : goal.returns
-returns c = sym (has_none c.requires c.lower_bound-i.ensures c.if-i-index.false)
+returns c = c.is_ok.ensures.value ∙ found_member _ _ _ c.requires c.binary_search.ensures.position
