@@ -15,8 +15,7 @@ use Rattle.model.specs.declared.Refusal.{Refusal}
 use Rattle.model.proofs.Tests.{test_true, test_false, test_yields, test_mem, test_not, test_lt}
 use Rattle.model.proofs.Replies.{number_some}
 use Rattle.edges.specs.Memory.{scan_of}
-use Rattle.edges.specs.declared.Scanned.TheVariants.{Edges}
-use Rattle.edges.specs.declared.Found.TheVariants.{At, Before}
+use Rattle.std.proofs.Common.{Some, Ok, Err}
 use Rattle.edges.proofs.Memory.{Scans, scans, Stands, stands, Lacks, lacks}
 use Rattle.calls.specs.Checks.{Check}
 use Rattle.calls.specs.Call.{Size, Memory}
@@ -26,7 +25,7 @@ use Rattle.calls.proofs.Change.{stop_first, pass_first, ChangeGood, change_good}
 use Rattle.named.specs.Named.{Passes, Finds, Places, Takes}
 
 -- edge memory that passes check 3, as the scan finds it
-scanned : (vertices : ℕ) (xs : List ℕ) {n : ℕ} → edge_memory? vertices xs ≡ true → n ≡ length (standing xs) → scan_of vertices xs ≡ Edges n
+scanned : (vertices : ℕ) (xs : List ℕ) {n : ℕ} → edge_memory? vertices xs ≡ true → n ≡ length (standing xs) → scan_of vertices xs ≡ Some n
 unfolding scan_of
 scanned vertices xs e q = rw (e, q)
 
@@ -57,30 +56,30 @@ module _ {h : Size} {from label to : ℕ} {m : Memory} where
 
   -- what the lookup found
   module _ {n at : ℕ} where
-    stood : Finds h from label to m n (At at) → Stands (edge_number from label to) (standing m.edges) at
+    stood : Finds h from label to m n (Ok at) → Stands (edge_number from label to) (standing m.edges) at
     stood f = stands (edge_number from label to) (standing m.edges) (rw (memory f.passes).front at f.is)
 
-    lacked : Finds h from label to m n (Before at) → Lacks (edge_number from label to) (standing m.edges) at
+    lacked : Finds h from label to m n (Err at) → Lacks (edge_number from label to) (standing m.edges) at
     lacked f = lacks (edge_number from label to) (standing m.edges) (memory f.passes).rising (rw (memory f.passes).front at f.is)
 
-    in_true : Finds h from label to m n (At at) → mem? (edge_number from label to) (standing m.edges) ≡ true
+    in_true : Finds h from label to m n (Ok at) → mem? (edge_number from label to) (standing m.edges) ≡ true
     in_true f = test_true (test_mem _ (standing m.edges)) (stood f).member
 
-    in_false : Finds h from label to m n (Before at) → mem? (edge_number from label to) (standing m.edges) ≡ false
+    in_false : Finds h from label to m n (Err at) → mem? (edge_number from label to) (standing m.edges) ≡ false
     in_false f = test_false (test_mem _ (standing m.edges)) (lacked f).absent
 
     -- insertion: 7 if the edge stands, then 9 if all slots are taken
-    pub insert_present : Finds h from label to m n (At at) → insert_refusal h from label to m ≡ 7
+    pub insert_present : Finds h from label to m n (Ok at) → insert_refusal h from label to m ≡ 7
     unfolding change_refusal insert_refusal
     insert_present f = pass_first (change_checks h from label to m) _ tt f.passes.is ∙ first_is (stop (ap not (in_true f)))
 
-    pub insert_full : Finds h from label to m n (Before at) → length m.edges ≤ n → insert_refusal h from label to m ≡ 9
+    pub insert_full : Finds h from label to m n (Err at) → length m.edges ≤ n → insert_refusal h from label to m ≡ 9
     unfolding change_refusal insert_refusal
     insert_full f l =
         pass_first (change_checks h from label to m) _ tt f.passes.is
         ∙ first_is (pass (ap not (in_false f)) (stop (test_false (test_lt (length (standing m.edges)) (length m.edges)) (λ k. omega (arith, k, l, f.passes.count)))))
 
-    pub places : Finds h from label to m n (Before at) → n < length m.edges → Places h from label to m n at
+    pub places : Finds h from label to m n (Err at) → n < length m.edges → Places h from label to m n at
     unfolding change_refusal insert_refusal
     places f l =
         record {
@@ -88,30 +87,26 @@ module _ {h : Size} {from label to : ℕ} {m : Memory} where
               pass_first (change_checks h from label to m) _ tt f.passes.is
               ∙ first_is (pass (ap not (in_false f)) (pass (test_true (test_lt (length (standing m.edges)) (length m.edges)) (omega (arith, l, f.passes.count))) none));
           passes = f.passes;
-          place = record { holds = (memory f.passes).holds; place = (lacked f).place; room = l };
+          place = record { zeros = (memory f.passes).holds.zeros; place = (lacked f).place; room = omega (arith, l, f.passes.count) };
         }
 
     -- removal: 8 if the edge does not stand
-    pub remove_absent : Finds h from label to m n (Before at) → remove_refusal h from label to m ≡ 8
+    pub remove_absent : Finds h from label to m n (Err at) → remove_refusal h from label to m ≡ 8
     unfolding change_refusal remove_refusal
     remove_absent f = pass_first (change_checks h from label to m) _ tt f.passes.is ∙ first_is (stop (in_false f))
 
-    pub takes : Finds h from label to m n (At at) → Takes h from label to m n at
+    pub takes : Finds h from label to m n (Ok at) → Takes h from label to m n at
     unfolding change_refusal remove_refusal
     takes f =
-        let inside : at < n = omega (arith, (stood f).inside, f.passes.count) in
+        let there : get_or m.edges at 0 ≡ edge_number from label to =
+            sym (get_or-take n m.edges at 0 (omega (arith, (stood f).inside, f.passes.count)))
+            ∙ ap (λ (l : List ℕ). get_or l at 0) (memory f.passes).front
+            ∙ (stood f).there in
         record {
           is = pass_first (change_checks h from label to m) _ tt f.passes.is ∙ first_is (pass (in_true f) none);
           passes = f.passes;
-          place = record {
-            holds = (memory f.passes).holds;
-            place = (stood f).place;
-            inside = inside;
-            there =
-                sym (get_or-take n m.edges at 0 inside)
-                ∙ ap (λ (l : List ℕ). get_or l at 0) (memory f.passes).front
-                ∙ (stood f).there;
-          };
+          place = record { zeros = (memory f.passes).holds.zeros; place = rw there (stood f).place; inside = (stood f).inside };
+          there = there;
         }
 
 -- what the last checks leave

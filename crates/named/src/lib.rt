@@ -5,127 +5,93 @@
 ghost use Rattle.calls.specs.Call.{lent};
 ghost use Rattle.named.specs.Named.{Changes, LooksUp, Inserts, Removes};
 
-use checks::Standing;
-use edges::Found;
-use model::Refusal;
+use model::{Edge, Refusal, Size};
 
-// How many edges stand and the slot at which the named one stands, or before which it belongs; or the refusal.
+// How many edges stand, and the slot at which the named one stands, or before which it belongs.
 #[derive(Clone, Copy)]
-enum Lookup {
-    Present(usize, usize),
-    Absent(usize, usize),
-    Refused(Refusal),
+struct Lookup {
+    standing: usize,
+    found: Result<usize, usize>,
 }
 
-// How many edges stand and the slot of the named one, or the refusal.
+// How many edges stand, and the slot of the named one.
 #[derive(Clone, Copy)]
-pub enum Slot {
-    At(usize, usize),
-    Refused(Refusal),
+pub struct Place {
+    pub standing: usize,
+    pub slot: usize,
 }
 
-// The checks with which insertion and removal begin: 1 2 3 4 5 6.
+// The checks with which insertion and removal begin: 1 2 3 4 5 6. Tells how many edges stand.
 fn check_change(
-    vertices: u32,
-    longest: u32,
-    from: u32,
-    label: u32,
-    to: u32,
+    size: Size,
+    edge: Edge,
     edges: &[u32],
     index: &[u64],
     work: &[u64],
-) -> Standing
-    ensures { Changes (record { vertices = vertices; longest = longest }) from label to
-        (lent edges.now index.now work.now) result }
+) -> Result<usize, Refusal>
+    ensures { Changes size edge (lent edges.now index.now work.now) result }
 {
-    let layout = checks::check_layout(vertices, longest, edges);
-    let Standing::Edges(n) = layout else {
-        return layout;
-    };
-    if checks::has_room(index.len(), work.len()) {
-        if checks::are_vertices(vertices, from, to) {
-            if checks::is_label(label) {
-                return Standing::Edges(n);
-            }
-            return Standing::Refused(Refusal::EdgeLabel);
-        }
-        return Standing::Refused(Refusal::EdgeEnd);
+    let standing = checks::check_layout(size, edges)?;
+    if !checks::has_room(index.len(), work.len()) {
+        return Err(Refusal::WorkMemory);
     }
-    Standing::Refused(Refusal::WorkMemory)
+    if !checks::are_vertices(size.vertices, edge.from, edge.to) {
+        return Err(Refusal::EdgeEnd);
+    }
+    if !checks::is_label(edge.label) {
+        return Err(Refusal::EdgeLabel);
+    }
+    Ok(standing)
 }
 
 // The named edge looked up among those that stand, once the first checks have passed.
 fn look_up(
-    vertices: u32,
-    longest: u32,
-    from: u32,
-    label: u32,
-    to: u32,
+    size: Size,
+    edge: Edge,
     edges: &[u32],
     index: &[u64],
     work: &[u64],
-) -> Lookup
-    ensures { LooksUp (record { vertices = vertices; longest = longest }) from label to
-        (lent edges.now index.now work.now) result }
+) -> Result<Lookup, Refusal>
+    ensures { LooksUp size edge (lent edges.now index.now work.now) result }
 {
-    let standing = check_change(vertices, longest, from, label, to, edges, index, work);
-    match standing {
-        Standing::Refused(refusal) => Lookup::Refused(refusal),
-        Standing::Edges(n) => {
-            let found = edges::find(edges, n, edges::edge_number(from, label, to));
-            match found {
-                Found::At(at) => Lookup::Present(n, at),
-                Found::Before(at) => Lookup::Absent(n, at),
-            }
-        }
-    }
+    let standing = check_change(size, edge, edges, index, work)?;
+    let found = edges::find(&edges[..standing], edge.number());
+    Ok(Lookup { standing, found })
 }
 
 // And then 7 9.
 pub fn check_insert(
-    vertices: u32,
-    longest: u32,
-    from: u32,
-    label: u32,
-    to: u32,
+    size: Size,
+    edge: Edge,
     edges: &[u32],
     index: &[u64],
     work: &[u64],
-) -> Slot
-    ensures { Inserts (record { vertices = vertices; longest = longest }) from label to
-        (lent edges.now index.now work.now) result }
+) -> Result<Place, Refusal>
+    ensures { Inserts size edge (lent edges.now index.now work.now) result }
 {
-    let lookup = look_up(vertices, longest, from, label, to, edges, index, work);
-    match lookup {
-        Lookup::Refused(refusal) => Slot::Refused(refusal),
-        Lookup::Present(_, _) => Slot::Refused(Refusal::EdgePresent),
-        Lookup::Absent(n, at) => {
-            if edges.len() <= n {
-                return Slot::Refused(Refusal::EdgeSlots);
-            }
-            Slot::At(n, at)
-        }
+    let Lookup { standing, found } = look_up(size, edge, edges, index, work)?;
+    let Err(slot) = found else {
+        return Err(Refusal::EdgePresent);
+    };
+    if edges.len() <= standing {
+        return Err(Refusal::EdgeSlots);
     }
+    Ok(Place { standing, slot })
 }
 
 // And then 8.
 pub fn check_remove(
-    vertices: u32,
-    longest: u32,
-    from: u32,
-    label: u32,
-    to: u32,
+    size: Size,
+    edge: Edge,
     edges: &[u32],
     index: &[u64],
     work: &[u64],
-) -> Slot
-    ensures { Removes (record { vertices = vertices; longest = longest }) from label to
-        (lent edges.now index.now work.now) result }
+) -> Result<Place, Refusal>
+    ensures { Removes size edge (lent edges.now index.now work.now) result }
 {
-    let lookup = look_up(vertices, longest, from, label, to, edges, index, work);
-    match lookup {
-        Lookup::Refused(refusal) => Slot::Refused(refusal),
-        Lookup::Absent(_, _) => Slot::Refused(Refusal::EdgeAbsent),
-        Lookup::Present(n, at) => Slot::At(n, at),
-    }
+    let Lookup { standing, found } = look_up(size, edge, edges, index, work)?;
+    let Ok(slot) = found else {
+        return Err(Refusal::EdgeAbsent);
+    };
+    Ok(Place { standing, slot })
 }
