@@ -1,35 +1,24 @@
--- Check 11, as the loop over the labels finds it.
-use mathlib.Core.Path.{◌≡◌, sym}
-use mathlib.Core.Bool.{true, false}
-use mathlib.Core.List.{List}
-use Prim.Native.Nat.{ℕ, ◌≤◌, ◌<◌}
-use native.Mathlib.Omega.{arith}
-use lib.ListN.{length, get_or}
-use Rattle.model.specs.Limits.{most_label}
-use Rattle.model.specs.Patterns.{Keyed}
+-- Check 11: what the length of a pattern leaves to its labels.
+use Rattle.std.proofs.Common.{◌≡◌, refl, true, false, ◌&&◌, ℕ, ◌≤◌, ◌<◌, List, length, arith}
+use Rattle.std.specs.List.{list_all}
+use Rattle.std.proofs.lemmas.Grind.{common_steps}
+use Rattle.std.proofs.lemmas.List.Recursion.{same_from_clauses}
+use Rattle.model.specs.Computed.Lists.{all?, within?}
+use Rattle.model.specs.Computed.Edges.{label?}
 use Rattle.model.specs.Computed.Patterns.{keyed?}
-use Rattle.model.proofs.Tests.{test_true, test_false}
-use Rattle.model.proofs.Lists.{Below, get_d_in, in_get_d}
-use Rattle.model.proofs.Patterns.{test_keyed}
 
--- position j has a label
-abbrev pub Labelled : List ℕ → ℕ → Type 0
-Labelled l j = (1 ≤ get_or l j 0) × (get_or l j 0 ≤ most_label)
-
--- the three ways that the check ends
 module _ (k : ℕ) (l : List ℕ) where
-  pub keyed_not : ¬ Keyed k l → false ≡ keyed? k l
-  keyed_not n = sym (test_false (test_keyed k l) n)
+  pub none_keyed : length l ≡ 0 → false ≡ keyed? k l
+  unfolding keyed?
+  none_keyed e = grind (arith, common_steps)
 
   pub too_long : k < length l → false ≡ keyed? k l
-  too_long h = keyed_not (λ m. omega (arith, m.short))
+  unfolding keyed?
+  too_long h = grind (arith, common_steps)
 
-  pub unlabelled : {i : ℕ} → i < length l → ¬ Labelled l i → false ≡ keyed? k l
-  unlabelled {i} h n = keyed_not (λ p. n (p.labels (get_or l i 0) (get_d_in l i h)))
-
-  pub keyed_below : {i : ℕ} → 1 ≤ length l → length l ≤ k → length l ≤ i → Below (Labelled l) i → true ≡ keyed? k l
-  keyed_below a b h p = sym (test_true (test_keyed k l) (record {
-    long = a;
-    short = b;
-    labels = λ c m. let k = in_get_d m in rw k.is at (p.at k.i (omega (arith, k.inside)));
-  }))
+  -- else the labels decide
+  pub labels_keyed : (length l ≡ 0 → ⊥) → length l ≤ k → list_all label? l ≡ keyed? k l
+  unfolding keyed? all?
+  labels_keyed a b =
+      let fits : within? 1 k (length l) ≡ true = grind (arith, common_steps) in
+      rw fits (same_from_clauses (list_all label?) (all? label?) (λ x t. label? x && t) refl (λ _ _. refl) (λ _ _. refl) l)

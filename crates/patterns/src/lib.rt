@@ -15,39 +15,27 @@ const MOST_LONGEST: u32 = model::MOST_LONGEST as u32;
 const MOST_LABEL: u8 = model::MOST_LABEL as u8;
 
 // The minimum repeat of a pattern, which is its first `length` labels, and how many times it was written.
-#[derive(Clone, Copy)]
+#[derive(Clone, Copy, PartialEq)]
 pub struct Folded {
     pub length: usize,
     pub times: usize,
 }
 
 // Check 11: 1 to `longest` labels, each 1 to 8.
-#[tactic(auto, using(crate::proofs::Keying::too_long))]
 pub fn is_keyed(longest: u32, pattern: &[u8]) -> bool
     ensures { result ≡ keyed? longest pattern.now }
 {
-    if pattern.len() < 1 {
+    if pattern.is_empty() {
         return false;
     }
     if (longest as usize) < pattern.len() {
         return false;
     }
-    let mut i = 0;
-    while i < pattern.len() {
-        let label = pattern[i];
-        if label < 1 {
-            return false;
-        }
-        if MOST_LABEL < label {
-            return false;
-        }
-        i += 1;
-    }
-    true
+    pattern.iter().all(|label| (1..=MOST_LABEL).contains(label))
 }
 
 // Whether the first d labels, written some whole number of times, give the pattern.
-#[tactic(auto, using(crate::proofs::Lengths::repeats_part, crate::proofs::Lengths::repeats_all))]
+#[tactic(auto, using(crate::proofs::Lengths::repeats_part))]
 fn repeats(pattern: &[u8], d: usize) -> bool
     requires { (1 ≤ d) × (d ≤ length pattern.now) }
     ensures { result ≡ repeats? pattern.now d }
@@ -55,14 +43,7 @@ fn repeats(pattern: &[u8], d: usize) -> bool
     if pattern.len() % d != 0 {
         return false;
     }
-    let mut i = d;
-    while i < pattern.len() {
-        if pattern[i] != pattern[i - d] {
-            return false;
-        }
-        i += 1;
-    }
-    true
+    pattern[d..] == pattern[..pattern.len() - d]
 }
 
 // Tries one length after another from d.
@@ -87,7 +68,7 @@ pub fn minimum_repeat(pattern: &[u8]) -> Folded
     if is_keyed(MOST_LONGEST, pattern) {
         let length = length_from(pattern, 1);
         Folded {
-            length: length,
+            length,
             times: pattern.len() / length,
         }
     } else {
@@ -103,11 +84,9 @@ pub fn code(pattern: &[u8]) -> u64
     requires { Keyed most_longest pattern.now }
     ensures { result ≡ code pattern.now }
 {
-    let mut digits: u64 = 0;
-    let mut i = 0;
-    while i < pattern.len() {
-        digits = digits * DIGIT_UNIT + pattern[i] as u64;
-        i += 1;
+    let mut digits = 0;
+    for &label in pattern {
+        digits = digits * DIGIT_UNIT + u64::from(label);
     }
     digits
 }

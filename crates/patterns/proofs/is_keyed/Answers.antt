@@ -1,22 +1,22 @@
+use mathlib.Core.Path.{◌∙◌}
 use native.Mathlib.Omega.{arith}
-use Rattle.model.proofs.Lists.{below_none, below_more}
-use Rattle.patterns.proofs.Keying.{keyed_not, unlabelled, keyed_below}
+use borrow.Author.Tests.{tests}
+use Rattle.std.proofs.Common.{rules, length, ◌≡◌}
+use Rattle.std.proofs.lemmas.Grind.{common_steps}
+use Rattle.std.proofs.lemmas.Iterator.{YieldsList-from_slice}
+use Rattle.std.proofs.lemmas.Iterator.Search.{all_from_yields_List}
+use Rattle.model.specs.Computed.Edges.{label?}
+use Rattle.patterns.proofs.Keying.{none_keyed, too_long, labels_keyed}
 use Rattle.patterns.proofs.is_keyed.Goals as goal
 
-pub returns-then-pattern-lt1 : goal.returns-then-pattern-lt1
-returns-then-pattern-lt1 c = keyed_not _ _ (λ k. omega (arith, k.long))
+pub returns-then-is_empty : goal.returns-then-is_empty
+returns-then-is_empty c = grind (arith, common_steps, none_keyed)
 
-pub loop-i-init : goal.loop-i-init
-loop-i-init c = below_none
-
-pub returns-then-label-lt1 : goal.returns-then-label-lt1
-returns-then-label-lt1 c = unlabelled _ _ c.loop-i-test.true (λ l. omega (arith, l))
-
-pub returns-then-label-gt-MOST_LABEL : goal.returns-then-label-gt-MOST_LABEL
-returns-then-label-gt-MOST_LABEL c = unlabelled _ _ c.loop-i-test.true (λ l. omega (arith, l))
-
-pub loop-i-preserved : goal.loop-i-preserved
-loop-i-preserved c = below_more c.loop-i.invariant (omega arith, omega arith)
+pub returns-then-longest-pattern : goal.returns-then-longest-pattern
+returns-then-longest-pattern c = too_long _ _ (omega arith)
 
 pub returns : goal.returns
-returns c = keyed_below _ _ (omega arith) (omega arith) c.loop-i-test.false c.loop-i.invariant
+returns c =
+    let some : length c.args.pattern.now ≡ 0 → ⊥ = grind (arith, common_steps) in
+    all_from_yields_List label? _ _ _ c.all.ensures.ran (YieldsList-from_slice c.args.pattern.now (cc)) (λ x b q k. search (rules, tests))
+    ∙ labels_keyed _ _ some (omega arith)
