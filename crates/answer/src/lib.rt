@@ -64,6 +64,7 @@ pub fn lower_bound(index: &[u64], key: u64) -> usize
 }
 
 // Whether an entry stands.
+#[tactic(auto, using(crate::proofs::Finding::found_member))]
 fn has(index: &[u64], entry: u64) -> bool
     requires { Rising index.now }
     ensures { result ≡ mem? «entry» index.now }

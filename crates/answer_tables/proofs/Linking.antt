@@ -3,29 +3,29 @@ use mathlib.Core.Path.{◌≡◌, refl, ap, ◌∙◌}
 use mathlib.Core.Logic.{◌⊎◌, inl, inr, ⊎_elim}
 use mathlib.Core.Bool.{Bool, true, false, ◌&&◌, ◌||◌}
 use mathlib.Core.List.{List, [], ◌∷◌}
-use Prim.Native.Nat.{ℕ, ◌+◌, ◌*◌, ◌-◌, ◌≤◌, ◌<◌}
+use Prim.Native.Nat.{ℕ, ◌+◌, ◌*◌, ◌≤◌, ◌<◌}
 use native.Mathlib.Nat.{le_refl}
 use native.Mathlib.Omega.{arith}
 use lib.Dec.{eqb}
-use lib.ListN.{length, get_or, set, take, drop, replicate, get_or-replicate}
+use lib.ListN.{length, get_or, set, replicate, get_or-replicate}
 use Rattle.model.specs.Limits.{most_vertices, most_longest, hub_unit, owner_unit, side_unit}
 use Rattle.model.specs.Lists.{◌∈◌, any?}
 use Rattle.model.specs.Patterns.{Keyed, code}
 use Rattle.model.specs.Entries.{entry_of}
 use Rattle.model.specs.Query.{target, source, shared}
 use Rattle.model.specs.Tables.{Tabulates}
-use Rattle.model.specs.Computed.Lists.{Bracket}
 use Rattle.model.specs.Computed.Query.{owner_of, hub_of, code_of}
 use Rattle.model.proofs.Tests.{Tests, test_map, test_agree, test_yields, test_and, test_or, test_eq, test_any}
-use Rattle.model.proofs.Lists.{get_d_in, in_get_d}
 use Rattle.model.proofs.Patterns.{code_below}
 use Rattle.model.proofs.Query.{test_answers}
 use Rattle.model.proofs.IndexMemory.{test_entry}
 use Rattle.model.proofs.Renumber.{entry_fields}
 use Rattle.answer_tables.specs.Marking.{coded?, joined?, found?, Marked, hub?, linked?}
 use Rattle.answer.specs.Saying.{Indexed}
-use Rattle.answer_tables.specs.Saying.{SaysFrom, SaysTo}
-use Rattle.answer.proofs.Answering.{Belongs, Part, part}
+use Rattle.answer_tables.specs.Saying.{SaysFrom, SaysTo, SaysOf}
+use Rattle.answer.specs.Parts.{Part, ListOf, SideOf, other_side}
+use Rattle.answer.specs.declared.Side.{Side}
+use Rattle.answer.specs.declared.Side.TheVariants.{Out, In}
 use Rattle.answer_tables.proofs.Marking.{mark_at}
 
 -- ---- what is found, by tests that agree
@@ -53,36 +53,30 @@ all_marked {own} {others} vertex w {hubs} n k a b = record {
 
 -- ---- what the marks say of the entries
 
-part_in : {index xs : List ℕ} {low high x : ℕ} → Part index low high xs → x ∈ index → low ≤ x → x < high → x ∈ xs
-part_in {xs = xs} {x = x} p m l h = let at = p.all x (record { stands = m; from = l; to = h }) in rw at.is at (get_d_in xs at.i at.inside)
-
-part_out : {index xs : List ℕ} {low high x : ℕ} → Part index low high xs → x ∈ xs → Belongs index low high x
-part_out p m = let at = in_get_d m in rw at.is at (p.each at.i at.inside)
-
 -- an entry that links v with the vertex, of side σ where the vertex owns it and of side τ where v does, or two that share a hub
 abbrev Links : ℕ → List ℕ → ℕ → ℕ → ℕ → ℕ → ℕ → Type 0
 Links vertices index σ τ vertex w v =
     (entry_of σ vertex v w ∈ index)
     ⊎ ((entry_of τ v vertex w ∈ index) ⊎ ((h : ℕ) × (h < vertices) × (entry_of σ vertex h w ∈ index) × (entry_of τ v h w ∈ index)))
 
-module _ {vertices longest : ℕ} {index : List ℕ} (σ τ : ℕ) {vertex w : ℕ} {low high low' high' : ℕ} {own others : List ℕ}
+module _ {vertices longest : ℕ} {index : List ℕ} (σ τ : ℕ) {vertex w : ℕ} {own others : List ℕ}
     (small : vertices ≤ most_vertices) (k : vertex < vertices) (indexed : Indexed vertices longest index) (c : w < hub_unit)
-    (p : Part index low high own) (low-is : low ≡ σ * side_unit + vertex * owner_unit) (high_is : high ≡ low + owner_unit)
-    (q : Part index low' high' others) (low-is' : low' ≡ τ * side_unit) (high-is' : high' ≡ low' + side_unit) where
+    (p : Part index (σ * side_unit + vertex * owner_unit) (σ * side_unit + vertex * owner_unit + owner_unit) own)
+    (q : Part index (τ * side_unit) (τ * side_unit + side_unit) others) where
   test_hub : (h : ℕ) → h < most_vertices → Tests (hub? own w h) (entry_of σ vertex h w ∈ index)
   unfolding hub? found?
   test_hub h b = test_map there back (test_any (λ x. test_and (test_eq (code_of x) w) (test_eq (hub_of x) h)) own)
     where
       there : (x : ℕ) × x ∈ own × ((code_of x ≡ w) × (hub_of x ≡ h)) → entry_of σ vertex h w ∈ index
       there (x, m, (e, f)) =
-          let o = part_out p m in
+          let o = p.each x m in
           let is : x ≡ entry_of σ vertex h w = omega (arith, o.from, o.to) in
           rw is at o.stands
 
       back : entry_of σ vertex h w ∈ index → (x : ℕ) × x ∈ own × ((code_of x ≡ w) × (hub_of x ≡ h))
       back m =
           let (_, _, f, e) = entry_fields σ vertex h w (omega arith) b c in
-          (entry_of σ vertex h w, part_in p m (omega arith) (omega arith), (e, f))
+          (entry_of σ vertex h w, p.all (entry_of σ vertex h w) (record { stands = m; from = omega arith; to = omega arith }), (e, f))
 
   test_links : (v : ℕ) → v < vertices → Tests (linked? own others vertex w v) (Links vertices index σ τ vertex w v)
   unfolding linked? found?
@@ -100,7 +94,7 @@ module _ {vertices longest : ℕ} {index : List ℕ} (σ τ : ℕ) {vertex w : �
       there : (entry_of σ vertex v w ∈ index) ⊎ ((x : ℕ) × x ∈ others × Found x) → Links vertices index σ τ vertex w v
       there (inl m) = inl m
       there (inr (x, m, ((e, j), f))) =
-          let o = part_out q m in
+          let o = q.each x m in
           let is : x ≡ entry_of τ v (hub_of x) w = omega (arith, o.from, o.to) in
           let n : entry_of τ v (hub_of x) w ∈ index = rw is at o.stands in
           let u = (test_yields (test_entry vertices longest x) (indexed.valid x o.stands)).hub in
@@ -110,53 +104,39 @@ module _ {vertices longest : ℕ} {index : List ℕ} (σ τ : ℕ) {vertex w : �
           → (x : ℕ) × x ∈ others × Found x
       theirs h l n j =
           let (_, o, u, e) = entry_fields τ v h w (omega arith) l c in
-          (entry_of τ v h w, part_in q n (omega arith) (omega arith), ((e, rw u j), o))
+          (entry_of τ v h w, q.all (entry_of τ v h w) (record { stands = n; from = omega arith; to = omega arith }), ((e, rw u j), o))
 
       back : Links vertices index σ τ vertex w v → (entry_of σ vertex v w ∈ index) ⊎ ((x : ℕ) × x ∈ others × Found x)
       back (inl m) = inl m
       back (inr (inl n)) = inr (theirs vertex (omega arith) n (inr refl))
       back (inr (inr (h, l, m, n))) = inr (theirs h (omega arith) n (inl m))
 
--- ---- the two calls
+-- ---- both sides
 
--- all entries stand from 0 on, and below the second side's end
-starts : (index : List ℕ) → Bracket index 0 0 0
-starts index = record { met = le_refl 0; most = omega arith; under = λ i h. absurd (omega arith); above = λ i h k. omega arith }
-
-ends : {vertices longest : ℕ} {index : List ℕ} → Indexed vertices longest index → Bracket index (side_unit + side_unit) (length index) (length index)
-ends {vertices} {longest} {index} x = record {
-  met = le_refl (length index);
-  most = le_refl (length index);
-  under = λ i h. omega (arith, (test_yields (test_entry vertices longest (get_or index i 0)) (x.valid (get_or index i 0) (get_d_in index i h))).side);
-  above = λ i h k. absurd (omega arith);
-}
-
--- the entries of the first side
-front : {index : List ℕ} {c : ℕ} → Bracket index side_unit c c → Part index 0 side_unit (take c index)
-front {index} {c} sides = let e : c - 0 ≡ c = omega arith in rw e at (part (starts index) sides)
-
-module _ {index l : List ℕ} {w a b c : ℕ} {table : List Bool} (is : w ≡ code l) (keyed : Keyed most_longest l)
-    (sides : Bracket index side_unit c c) where
-  pub says_from : {s : ℕ} → Bracket index (s * owner_unit) a a → Bracket index (s * owner_unit + owner_unit) b b
-      → Tabulates most_vertices table (linked? (take (b - a) (drop a index)) (take (length index - c) (drop c index)) s w) → SaysFrom index l s table
-  says_from {s} from to marks = record {
+module _ {index l : List ℕ} {w : ℕ} (v : ℕ) {own others : List ℕ} {table : List Bool} (is : w ≡ code l) (keyed : Keyed most_longest l)
+    (marks : Tabulates most_vertices table (linked? own others v w)) where
+  says_from : ListOf index Out v own → SideOf index In others → SaysFrom index l v table
+  says_from o i = record {
     is = λ vertices longest small k x. let coded = code_below (le_refl most_longest) keyed in record {
       each = λ t h. (rw is at marks).each t (omega arith) ∙ test_agree (test_map
           (λ j. elim j [ inl m ↦ target m | inr (inl m) ↦ source m | inr (inr (u, i, m, n)) ↦ shared u i m n ])
           (λ j. elim j [ target m ↦ inl m | source m ↦ inr (inl m) | shared u i m n ↦ inr (inr (u, i, m, n)) ])
-          (test_links 0 1 small k x coded (part from to) (omega arith) (omega arith) (part sides (ends x)) (omega arith) (omega arith) t h))
-          (test_answers vertices index l s t);
+          (test_links 0 1 small k x coded o i t h))
+          (test_answers vertices index l v t);
     };
   }
 
-  pub says_to : {t : ℕ} → Bracket index (side_unit + t * owner_unit) a a → Bracket index (side_unit + t * owner_unit + owner_unit) b b
-      → Tabulates most_vertices table (linked? (take (b - a) (drop a index)) (take c index) t w) → SaysTo index l t table
-  says_to {t} from to marks = record {
+  says_to : ListOf index In v own → SideOf index Out others → SaysTo index l v table
+  says_to o i = record {
     is = λ vertices longest small k x. let coded = code_below (le_refl most_longest) keyed in record {
       each = λ s h. (rw is at marks).each s (omega arith) ∙ test_agree (test_map
           (λ j. elim j [ inl m ↦ source m | inr (inl m) ↦ target m | inr (inr (u, i, m, n)) ↦ shared u i n m ])
           (λ j. elim j [ source m ↦ inl m | target m ↦ inr (inl m) | shared u i m n ↦ inr (inr (u, i, n, m)) ])
-          (test_links 1 0 small k x coded (part from to) (omega arith) (omega arith) (front sides) (omega arith) (omega arith) s h))
-          (test_answers vertices index l s t);
+          (test_links 1 0 small k x coded o i s h))
+          (test_answers vertices index l s v);
     };
   }
+
+  pub says_of : (side : Side) → ListOf index side v own → SideOf index (other_side side) others → SaysOf side index l v table
+  says_of Out = says_from
+  says_of In = says_to

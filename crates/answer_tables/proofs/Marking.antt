@@ -22,46 +22,30 @@ mark_at marks i v h = elim (ℕ_discrete v i) [
 
 -- the loop stands at slot i
 pub record Marking (test : ℕ → Bool) (field : ℕ → ℕ) (list : List ℕ) (before marks : List Bool) (i : ℕ) : Type 0 where
-  pub within : i ≤ length list
-  pub same_length : length marks ≡ length before
   pub rest : (v : ℕ) → (get_or marks v false || found? test field (drop i list) v) ≡ (get_or before v false || found? test field list v)
 
-module _ {test : ℕ → Bool} {field : ℕ → ℕ} {list : List ℕ} {before : List Bool} where
-  pub marking_start : Marking test field list before before 0
-  marking_start = record { within = omega arith; same_length = refl; rest = λ v. refl }
+module _ {test : ℕ → Bool} {field : ℕ → ℕ} {list : List ℕ} {before marks : List Bool} {i : ℕ} (g : Marking test field list before marks i) where
+  found_next : i < length list → (v : ℕ) {b : Bool} → test (get_or list i 0) ≡ b
+      → found? test field (drop i list) v ≡ ((b && eqb (field (get_or list i 0)) v) || found? test field (drop (i + 1) list) v)
+  unfolding found? any?
+  found_next h v e = rw (drop-cons list i 0 h, add-one, e) refl
 
-  module _ {marks : List Bool} {i : ℕ} (g : Marking test field list before marks i) where
-    found_next : i < length list → (v : ℕ) {b : Bool} → test (get_or list i 0) ≡ b
-        → found? test field (drop i list) v ≡ ((b && eqb (field (get_or list i 0)) v) || found? test field (drop (i + 1) list) v)
-    unfolding found? any?
-    found_next h v e = rw (drop-cons list i 0 h, add-one, e) refl
+  -- the entry fails the test
+  pub marking_pass : i < length list → test (get_or list i 0) ≡ false → Marking test field list before marks (i + 1)
+  marking_pass h e = record { rest = λ v. ap (λ (b : Bool). get_or marks v false || b) (sym (found_next h v e)) ∙ g.rest v }
 
-    -- the entry fails the test
-    pub marking_pass : i < length list → test (get_or list i 0) ≡ false → Marking test field list before marks (i + 1)
-    marking_pass h e = record {
-      within = omega arith;
-      same_length = g.same_length;
-      rest = λ v. ap (λ (b : Bool). get_or marks v false || b) (sym (found_next h v e)) ∙ g.rest v;
-    }
+  -- the entry passes it, and is marked
+  pub marking_mark : {after : List Bool} → i < length list → test (get_or list i 0) ≡ true → after ≡ set marks (field (get_or list i 0)) true
+      → field (get_or list i 0) < length after → Marking test field list before after (i + 1)
+  marking_mark {after} h e set_to k = record {
+    rest = λ v.
+        let x = get_or list i 0 in
+        let room : field x < length marks = omega (arith, ap length set_to, length-set marks (field x) true) in
+        ap (λ (b : Bool). b || found? test field (drop (i + 1) list) v) (rw set_to (mark_at marks (field x) v room))
+        ∙ or_assoc (get_or marks v false) (eqb (field x) v) (found? test field (drop (i + 1) list) v)
+        ∙ ap (λ (b : Bool). get_or marks v false || b) (sym (found_next h v e)) ∙ g.rest v;
+  }
 
-    -- the entry passes it, and is marked
-    pub marking_mark : i < length list → test (get_or list i 0) ≡ true → field (get_or list i 0) < length marks
-        → Marking test field list before (set marks (field (get_or list i 0)) true) (i + 1)
-    marking_mark h e k = record {
-      within = omega arith;
-      same_length = length-set marks _ true ∙ g.same_length;
-      rest = λ v.
-          let x = get_or list i 0 in
-          ap (λ (b : Bool). b || found? test field (drop (i + 1) list) v) (mark_at marks (field x) v k)
-          ∙ or_assoc (get_or marks v false) (eqb (field x) v) (found? test field (drop (i + 1) list) v)
-          ∙ ap (λ (b : Bool). get_or marks v false || b) (sym (found_next h v e)) ∙ g.rest v;
-    }
-
-    found_none : length list ≤ i → (v : ℕ) → found? test field (drop i list) v ≡ false
-    unfolding found? any?
-    found_none h v = rw (drop_of_length-le list h) refl
-
-    pub marking_all : length list ≤ i → Marked test field list before marks
-    marking_all h = record {
-      each = λ v. sym (or-false (get_or marks v false)) ∙ ap (λ (b : Bool). get_or marks v false || b) (sym (found_none h v)) ∙ g.rest v;
-    }
+  pub marking_all : length list ≤ i → Marked test field list before marks
+  unfolding found? any?
+  marking_all h = record { each = λ v. sym (or-false (get_or marks v false)) ∙ rw (drop_of_length-le list h) at g.rest v }

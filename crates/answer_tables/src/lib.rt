@@ -1,52 +1,48 @@
 // The answers from one vertex, or to it, for all vertices at once: a table of marks, from the vertex's own list and the entries of the other side.
 #![tactic(auto)]
 
-ghost use Rattle.std.specs.Prelude.{◌≡◌, ◌<◌, length};
+ghost use Rattle.std.specs.Prelude.{◌<◌};
 ghost use Rattle.model.specs.Limits.{most_vertices};
 ghost use Rattle.model.specs.Tables.{Tabulates};
 ghost use Rattle.model.specs.Computed.Query.{owner_of, hub_of};
 ghost use Rattle.answer.specs.Saying.{Answerable};
 ghost use Rattle.answer_tables.specs.Marking.{coded?, joined?, linked?, Marked};
-ghost use Rattle.answer_tables.specs.Saying.{SaysFrom, SaysTo};
+ghost use Rattle.answer_tables.specs.Saying.{SaysOf};
 
-use model::{HUB_UNIT, MOST_VERTICES, OWNER_UNIT, SIDE_UNIT};
-
-// The numbers that an owner's field and a hub's field hold.
-const FIELD: u64 = MOST_VERTICES as u64;
+use answer::Side;
+use model::{Entry, MOST_VERTICES};
 
 // Marks the hub of each entry that has the code.
-fn mark_hubs(list: &[u64], code: u64, marks: &mut [bool])
-    requires { length marks.old ≡ most_vertices }
+fn mark_hubs(list: &[u64], code: u64, marks: &mut [bool; MOST_VERTICES])
     ensures { Marked (coded? code) hub_of list.now marks.old marks.new }
 {
-    let mut i = 0;
-    while i < list.len() {
-        let x = list[i];
-        if x % HUB_UNIT == code {
-            marks[(x / HUB_UNIT % FIELD) as usize] = true;
+    for &x in list {
+        let entry = Entry::from(x);
+        if entry.code == code {
+            marks[entry.hub] = true;
         }
-        i += 1;
     }
 }
 
 // Marks the owner of each entry that has the code and a marked hub.
-fn mark_owners(entries: &[u64], code: u64, hubs: &[bool], marks: &mut [bool])
-    requires { (length hubs.now ≡ most_vertices) × (length marks.old ≡ most_vertices) }
+fn mark_owners(
+    entries: &[u64],
+    code: u64,
+    hubs: &[bool; MOST_VERTICES],
+    marks: &mut [bool; MOST_VERTICES],
+)
     ensures { Marked (joined? code hubs.now) owner_of entries.now marks.old marks.new }
 {
-    let mut i = 0;
-    while i < entries.len() {
-        let x = entries[i];
-        if x % HUB_UNIT == code {
-            if hubs[(x / HUB_UNIT % FIELD) as usize] {
-                marks[(x / OWNER_UNIT % FIELD) as usize] = true;
-            }
+    for &x in entries {
+        let entry = Entry::from(x);
+        if entry.code == code && hubs[entry.hub] {
+            marks[entry.owner] = true;
         }
-        i += 1;
     }
 }
 
 // Every vertex that the vertex's own list and the entries of the other side join with it by the code.
+#[tactic(auto, using(crate::proofs::Linking::all_marked))]
 fn mark_all(own: &[u64], others: &[u64], vertex: u32, code: u64) -> [bool; MOST_VERTICES]
     requires { vertex < most_vertices }
     ensures { Tabulates most_vertices result (linked? own.now others.now vertex code) }
@@ -60,28 +56,17 @@ fn mark_all(own: &[u64], others: &[u64], vertex: u32, code: u64) -> [bool; MOST_
     marks
 }
 
-// The vertices to which the query from start is a yes: what follows check 12, as in `answer::answer`, for every destination at once.
-pub fn answers_from(index: &[u64], start: u32, pattern: &[u8]) -> [bool; MOST_VERTICES]
-    requires { Answerable index.now pattern.now start start }
-    ensures { SaysFrom index.now pattern.now start result }
+// The vertices to which the query from the vertex is a yes, by its out list, or from which the query to it is one, by its in list: what follows
+// check 12, as in `answer::answer`, for every other end at once.
+#[tactic(auto, using(crate::proofs::Linking::says_of))]
+pub fn answers(index: &[u64], side: Side, vertex: u32, pattern: &[u8]) -> [bool; MOST_VERTICES]
+    requires { Answerable index.now pattern.now vertex vertex }
+    ensures { SaysOf side index.now pattern.now vertex result }
 {
-    let code = patterns::code(pattern);
-    let out = start as u64 * OWNER_UNIT;
-    let a = answer::lower_bound(index, out);
-    let b = answer::lower_bound(index, out + OWNER_UNIT);
-    let c = answer::lower_bound(index, SIDE_UNIT);
-    mark_all(&index[a..b], &index[c..], start, code)
-}
-
-// The vertices from which the query to destination is a yes, for every start at once.
-pub fn answers_to(index: &[u64], destination: u32, pattern: &[u8]) -> [bool; MOST_VERTICES]
-    requires { Answerable index.now pattern.now destination destination }
-    ensures { SaysTo index.now pattern.now destination result }
-{
-    let code = patterns::code(pattern);
-    let into = SIDE_UNIT + destination as u64 * OWNER_UNIT;
-    let a = answer::lower_bound(index, into);
-    let b = answer::lower_bound(index, into + OWNER_UNIT);
-    let c = answer::lower_bound(index, SIDE_UNIT);
-    mark_all(&index[a..b], &index[..c], destination, code)
+    mark_all(
+        answer::list(index, side, vertex),
+        answer::of_side(index, side.other()),
+        vertex,
+        patterns::code(pattern),
+    )
 }
