@@ -45,11 +45,9 @@ fn place(pattern: &[u8]) -> usize
 {
     let n = pattern.len();
     let start = start_of(&STARTS, n);
-    let mut digits: usize = 0;
-    let mut left = n;
-    while 0 < left {
-        digits = digits * LABELS + digit(pattern, n - left);
-        left -= 1;
+    let mut digits = 0;
+    for i in 0..n {
+        digits = digits * LABELS + digit(pattern, i);
     }
     start + digits
 }
@@ -69,7 +67,7 @@ pub fn minimum_repeat(pattern: &[u8]) -> Folded
     if patterns::is_keyed(LONGEST, pattern) {
         let length = length_at(&LENGTHS, place(pattern)) as usize;
         Folded {
-            length: length,
+            length,
             times: pattern.len() / length,
         }
     } else {
@@ -84,10 +82,5 @@ pub fn minimum_repeat(pattern: &[u8]) -> Folded
 pub fn agree(pattern: &[u8]) -> bool
     ensures { result ≡ true }
 {
-    let found = minimum_repeat(pattern);
-    let computed = patterns::minimum_repeat(pattern);
-    if found.length != computed.length {
-        return false;
-    }
-    found.times == computed.times
+    minimum_repeat(pattern) == patterns::minimum_repeat(pattern)
 }

@@ -1,13 +1,9 @@
 -- `lookup::place` meets its contract. The invariant: the digits so far, with the labels that are left behind them, are the ordinal. No label
 -- lessens it, so every step stays below the size of the table.
 use mathlib.Core.Path.{◌≡◌}
-use Prim.Native.Nat.{◌-◌, ◌≤◌}
 use lib.ListN.{drop}
 use Rattle.model.specs.Computed.Table.{ordinal_from}
 use Rattle.lookup.proofs.place.Given as goal
 
-abbrev pub invariant-loop-left : goal.invariant-loop-left
-invariant-loop-left l = (l.left ≤ l.n) × (ordinal_from l.digits (drop (l.n - l.left) l.pattern) ≡ ordinal_from 0 l.pattern)
-
-abbrev pub decreases-loop-left : goal.decreases-loop-left
-decreases-loop-left l = l.left
+abbrev pub invariant-loop-i : goal.invariant-loop-i
+invariant-loop-i l = ordinal_from l.digits (drop l.i l.pattern) ≡ ordinal_from 0 l.pattern
