@@ -10,10 +10,11 @@ use lib.Bits.{bit_and, and_le_l}
 use lib.Count.{count_trailing_zeros}
 use lib.ListN.{get_or}
 use lib.Pow.{shr_le, shr-shr}
+use Rattle.std.specs.Int.{bit_at}
 use Rattle.model.specs.Limits.{most_vertices}
 use Rattle.rows.specs.Region.{row_numbers}
 use Rattle.rows.specs.Rows.{cell, On, FirstFrom, NoneFrom, FirstShared, NoneShared}
-use Rattle.rows.proofs.Bits.{bit, no_bit, bit_below, and_iff, Lowest, trailing}
+use Rattle.rows.proofs.Bits.{no_bit, bit_below, and_iff, Lowest, trailing}
 
 -- no vertex of P from p on is in the first i numbers
 pub record Gap (P : ℕ → Type 0) (p i : ℕ) : Type 0 where
@@ -31,7 +32,7 @@ gap_none P p i h = record { gap = λ j k l. absurd (omega arith) }
 
 -- q is the first vertex of number i from p on, and x has the bits of P from there on
 module _ {P : ℕ → Type 0} {p i q x : ℕ} (m : Gap P p i) (h : i < row_numbers) (l : p / 64 ≤ i) (e : q ≡ max p (i * 64))
-    (is : (j : ℕ) → q ≤ j → j / 64 ≡ i → (bit x (j - q) ≡ 1) ↔ P j) where
+    (is : (j : ℕ) → q ≤ j → j / 64 ≡ i → (bit_at x (j - q) ≡ 1) ↔ P j) where
   gap_number : x ≡ 0 → Gap P p (i + 1)
   gap_number z =
       record {
@@ -42,10 +43,10 @@ module _ {P : ℕ → Type 0} {p i q x : ℕ} (m : Gap P p i) (h : i < row_numbe
       }
 
   -- x has no bit of another number
-  first_found : (x ≡ 0 → ⊥) → x < 2 ^ 64 → ((t : ℕ) → bit x t ≡ 1 → q % 64 + t < 64) → First P p (q + count_trailing_zeros 64 x)
+  first_found : (x ≡ 0 → ⊥) → x < 2 ^ 64 → ((t : ℕ) → bit_at x t ≡ 1 → q % 64 + t < 64) → First P p (q + count_trailing_zeros 64 x)
   first_found n small inside =
       let t = count_trailing_zeros 64 x in
-      let first : Lowest x t = trailing 64 x small n in
+      let first : Lowest x t = trailing x small n in
       let within : q % 64 + t < 64 = inside t first.here in
       let back : (q + t) - q ≡ t = omega arith in
       record {
@@ -69,14 +70,14 @@ abbrev pub rest : List ℕ → ℕ → ℕ → ℕ → ℕ
 rest w r i q = number w r i / 2 ^ (q % 64)
 
 module _ (w : List ℕ) (r : ℕ) {p i q : ℕ} (m : Gap (On w r) p i) (h : i < row_numbers) (l : p / 64 ≤ i) (e : q ≡ max p (i * 64)) where
-  rest_bit : (t : ℕ) → bit (rest w r i q) t ≡ bit (number w r i) (q % 64 + t)
+  rest_bit : (t : ℕ) → bit_at (rest w r i q) t ≡ bit_at (number w r i) (q % 64 + t)
   rest_bit t = ap (λ (x : ℕ). x % 2) (shr-shr (number w r i) (q % 64) t)
 
-  rest_is : (j : ℕ) → q ≤ j → j / 64 ≡ i → (bit (rest w r i q) (j - q) ≡ 1) ↔ On w r j
+  rest_is : (j : ℕ) → q ≤ j → j / 64 ≡ i → (bit_at (rest w r i q) (j - q) ≡ 1) ↔ On w r j
   unfolding cell
   rest_is j k d =
       let s : q % 64 + (j - q) ≡ j % 64 = omega arith in
-      let is : bit (rest w r i q) (j - q) ≡ bit (number w r i) (j % 64) = rest_bit (j - q) ∙ ap (bit (number w r i)) s in
+      let is : bit_at (rest w r i q) (j - q) ≡ bit_at (number w r i) (j % 64) = rest_bit (j - q) ∙ ap (bit_at (number w r i)) s in
       rw d (λ y. sym is ∙ y, λ y. is ∙ y)
 
   pub passed_number : rest w r i q ≡ 0 → Gap (On w r) p (i + 1)
@@ -102,7 +103,7 @@ abbrev pub shared : List ℕ → ℕ → ℕ → ℕ → ℕ
 shared w a b i = bit_and (number w a i) (number w b i)
 
 module _ (w : List ℕ) (a b : ℕ) {i : ℕ} (m : Gap (Both w a b) 0 i) (h : i < row_numbers) where
-  shared_is : (j : ℕ) → i * 64 ≤ j → j / 64 ≡ i → (bit (shared w a b i) (j - i * 64) ≡ 1) ↔ Both w a b j
+  shared_is : (j : ℕ) → i * 64 ≤ j → j / 64 ≡ i → (bit_at (shared w a b i) (j - i * 64) ≡ 1) ↔ Both w a b j
   unfolding cell
   shared_is j k d = let s : j - i * 64 ≡ j % 64 = omega arith in rw (s, d) (and_iff _ _ (j % 64))
 

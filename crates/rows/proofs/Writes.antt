@@ -1,139 +1,148 @@
--- What stores to the numbers of a row make of it.
-use mathlib.Core.Path.{◌≡◌, refl, ap, ◌∙◌}
-use mathlib.Core.Bool.{cond}
+-- What writes to the numbers of a row make of it.
+use mathlib.Core.Path.{◌≡◌, refl, ◌∙◌}
 use mathlib.Core.List.{List}
 use mathlib.Core.Logic.Iff
-use mathlib.Core.Logic.{◌⊎◌, ⊎_map, ◌↔◌, ◌≢◌}
-use Prim.Native.Nat.{ℕ, ◌+◌, ◌-◌, ◌*◌, ◌/◌, ◌%◌, ◌^◌, ◌<◌}
-use native.Mathlib.Nat.{add-zero}
+use mathlib.Core.Logic.{◌⊎◌, inl, inr, ⊎_elim, ◌↔◌, ◌≢◌}
+use Prim.Native.Nat.{ℕ, ◌+◌, ◌-◌, ◌*◌, ◌/◌, ◌%◌, ◌^◌, ◌≤◌, ◌<◌}
 use native.Mathlib.Omega.{arith}
 use native.Mathlib.Decide.{ℕ_discrete}
-use lib.Bits.{bit_or, and_zero_r, or_zero_r, xor_zero_r}
-use lib.Dec.{eqb}
-use borrow.Author.Tests.{eq-eqb, ne_eqb}
-use lib.ListN.{get_or, set, length-set}
-use lib.Seq.{get_or-set_other}
+use lib.Bits.{bit_and, bit_or}
+use lib.ListN.{get_or, set, length, length-set}
+use lib.Seq.{get_or-set_same, get_or-set_other}
+use Rattle.std.specs.Int.{w64, bit_at, bit_not}
+use Rattle.std.proofs.lemmas.Nat.Bits.{bit_at_set_same, bit_at_set_other, bit_at_clear_same, bit_at_clear_other, bit_at_ones, bit_at-zero}
+use Rattle.rows.proofs.Bits.{or_iff, without_iff}
 use Rattle.model.specs.Limits.{most_vertices}
-use Rattle.model.proofs.Lists.{get_d_set}
 use Rattle.rows.specs.Region.{row_numbers}
 use Rattle.rows.specs.Rows.{cell, On, Has, KeepsRows, Becomes}
-use Rattle.rows.specs.Four.{without, paired, loaded, stored}
-use Rattle.rows.specs.declared.Words.{Words}
-use Rattle.rows.proofs.Bits.{bit, one, no_bit, full_bit, or_iff, without_iff, one_iff}
+use Rattle.rows.specs.Numbers.{number, Makes}
 
--- w' is w with the first n numbers of row r made those of v
-record Storing (w w' : List ℕ) (r : ℕ) (v : ℕ → ℕ) (n : ℕ) : Type 0 where
-  keeps : KeepsRows w w' (λ q. q ≢ r)
-  done : (k : ℕ) → k < n → get_or w' (r * row_numbers + k) 0 ≡ v k
+-- what holds of a number after another or itself is written
+set_is : (Q : ℕ → Type 0) (l : List ℕ) (i v k : ℕ) → i < length l → (k ≡ i → Q v) → (k ≢ i → Q (get_or l k 0)) → Q (get_or (set l i v) k 0)
+set_is Q l i v k h f g = elim (ℕ_discrete k i) [
+  | yes e ↦ rw (e, get_or-set_same l i v 0 h) (f e)
+  | no d ↦ rw (get_or-set_other l i k v 0 d) (g d)
+]
 
-writes_all : {w w' : List ℕ} {r : ℕ} {v : ℕ → ℕ} {P : ℕ → Type 0} → Storing w w' r v row_numbers
-    → ((j : ℕ) → j < most_vertices → (bit (v (j / 64)) (j % 64) ≡ 1) ↔ P j) → Becomes w w' r P
+-- a row each of whose numbers has the bits of P
+pub made_is : {w w' : List ℕ} {r : ℕ} {R : ℕ → ℕ → Type 0} {P : ℕ → Type 0} → Makes w w' r R
+    → ((j y : ℕ) → j < most_vertices → R (j / 64) y → (bit_at y (j % 64) ≡ 1) ↔ P j) → Becomes w w' r P
 unfolding cell
-writes_all m f =
+made_is m f =
     record {
       keeps = m.keeps;
       row = record {
-        only = λ j h e. (f j h).0 (rw (m.done (j / 64) (omega arith)) at e);
-        all = λ j h p. rw (m.done (j / 64) (omega arith)) ((f j h).1 p);
+        only = λ j h. (f j _ h (m.made (j / 64) (omega arith))).0;
+        all = λ j h. (f j _ h (m.made (j / 64) (omega arith))).1;
       };
     }
 
--- ---- four numbers
-module _ {w : List ℕ} {r : ℕ} (h : Has w r) (v : ℕ → ℕ) where
-  writes_more : {cur : List ℕ} {i : ℕ} → i < row_numbers → Storing w cur r v i → Storing w (set cur (r * row_numbers + i) (v i)) r v (i + 1)
-  writes_more {cur} {i} l m =
+-- row x of each two numbers of rows a and b
+pub union_is : (a b : ℕ) {w w' : List ℕ} {x : ℕ} {R : ℕ → ℕ → Type 0} → ((i y : ℕ) → R i y → y ≡ bit_or (number w a i) (number w b i))
+    → Makes w w' x R → Becomes w w' x (λ k. On w a k ⊎ On w b k)
+unfolding cell
+union_is a b f m = made_is m (λ j y h r. rw (f _ _ r) (or_iff _ _ (j % 64)))
+
+pub subtract_is : (a b : ℕ) {w w' : List ℕ} {x : ℕ} {R : ℕ → ℕ → Type 0} → ((i : ℕ) → get_or w i 0 < 2 ^ 64) → ((i y : ℕ) → R i y → y ≡ bit_and (number w a i) (bit_not w64 (number w b i)))
+    → Makes w w' x R → Becomes w w' x (λ k. On w a k × (On w b k → ⊥))
+unfolding cell
+subtract_is a b s f m = made_is m (λ j y h r. rw (f _ _ r) (without_iff _ _ (j % 64) (s _) (omega arith)))
+
+pub copy_is : (a : ℕ) {w w' : List ℕ} {x : ℕ} {R : ℕ → ℕ → Type 0} → ((i y : ℕ) → R i y → y ≡ number w a i) → Makes w w' x R → Becomes w w' x (On w a)
+unfolding cell
+copy_is a f m = made_is m (λ j y h r. rw (f _ _ r) Iff.rfl)
+
+pub fill_is : {w w' : List ℕ} {r : ℕ} → Makes w w' r (λ i y. y ≡ 2 ^ 64 - 1) → Becomes w w' r (λ k. k < most_vertices)
+fill_is m = made_is m (λ j y h e. (λ _. h, λ _. rw e (bit_at_ones 64 (j % 64) (omega arith))))
+
+pub clear_is : {w w' : List ℕ} {r : ℕ} → Makes w w' r (λ i y. y ≡ 0) → Becomes w w' r (λ k. ⊥)
+clear_is m = made_is m (λ j y h e. (λ o. omega (arith, e, bit_at-zero (j % 64), rw e at o), λ p. absurd p))
+
+-- ---- number by number
+
+-- w' is w with the first i numbers of row r made some that R holds of
+pub record Making (w w' : List ℕ) (r : ℕ) (R : ℕ → ℕ → Type 0) (i : ℕ) : Type 0 where
+  pub keeps : KeepsRows w w' (λ q. q ≢ r)
+  pub rest : (k : ℕ) → i ≤ k → k < row_numbers → number w' r k ≡ number w r k
+  pub made : (k : ℕ) → k < i → R k (number w' r k)
+
+pub making_none : (w : List ℕ) (r : ℕ) (R : ℕ → ℕ → Type 0) → Making w w r R 0
+making_none w r R =
+    record {
+      keeps = record { len = refl; same = λ k n. refl };
+      rest = λ k l h. refl;
+      made = λ k l. absurd (omega arith);
+    }
+
+module _ {w w' : List ℕ} {r : ℕ} {R : ℕ → ℕ → Type 0} {i : ℕ} (m : Making w w' r R i) (h : i < row_numbers) where
+  -- the numbers that are read next are as they were, also in row r itself
+  pub making_reads : (a : ℕ) → number w' a i ≡ number w a i
+  making_reads a = elim (ℕ_discrete a r) [
+    | yes e ↦ rw e (m.rest i (omega arith) h)
+    | no n ↦ m.keeps.same (a * row_numbers + i) (λ e. n (omega arith))
+  ]
+
+  pub making_more : {v : ℕ} → Has w r → R i v → Making w (set w' (r * row_numbers + i) v) r R (i + 1)
+  making_more {v} x y =
       record {
         keeps = record {
-          len = length-set cur _ _ ∙ m.keeps.len;
-          same = λ k n. get_or-set_other cur (r * row_numbers + i) k _ 0 (λ e. n (omega arith)) ∙ m.keeps.same k n;
+          len = length-set w' _ _ ∙ m.keeps.len;
+          same = λ k n. get_or-set_other w' (r * row_numbers + i) k _ 0 (λ e. n (omega arith)) ∙ m.keeps.same k n;
         };
-        done = λ k q. get_d_set cur (r * row_numbers + i) _ (r * row_numbers + k) _ (omega (arith, m.keeps.len))
-            (λ e. ap v (omega arith))
-            (λ n. m.done k (omega arith));
+        rest = λ k l n. get_or-set_other w' (r * row_numbers + i) _ _ 0 (λ e. omega arith) ∙ m.rest k (omega arith) n;
+        made = λ k l. set_is (R k) w' (r * row_numbers + i) _ (r * row_numbers + k) (omega (arith, m.keeps.len, x.row, x.long))
+            (λ e. let q : k ≡ i = omega arith in rw q y)
+            (λ n. m.made k (omega arith));
       }
 
-  stored_is : {P : ℕ → Type 0} → ((j : ℕ) → j < most_vertices → (bit (v (j / 64)) (j % 64) ≡ 1) ↔ P j)
-      → Becomes w (stored w r (record { a = v 0; b = v 1; c = v 2; d = v 3 })) r P
-  stored_is = writes_all (writes_more (omega arith) (writes_more (omega arith) (writes_more (omega arith) first)))
-    where
-      none : Storing w w r v 0
-      none = record { keeps = record { len = refl; same = λ k _. refl }; done = λ k l. absurd (omega arith) }
-
-      first : Storing w (set w (r * row_numbers) (v 0)) r v 1
-      first = rw (add-zero (r * row_numbers)) at (writes_more (omega arith) none)
-
-pub clear_is : {w w' : List ℕ} {r : ℕ} → Has w r
-    → w' ≡ stored w r (record { a = 0; b = 0; c = 0; d = 0 }) → Becomes w w' r (λ k. ⊥)
-clear_is h e = rw e (stored_is h (λ k. 0) (λ j _. (no_bit (j % 64), λ p. absurd p)))
-
-abbrev full : ℕ
-full = 2 ^ 64 - 1
-
-pub fill_is : {w w' : List ℕ} {r : ℕ} → Has w r
-    → w' ≡ stored w r (record { a = full; b = full; c = full; d = full }) → Becomes w w' r (λ k. k < most_vertices)
-fill_is h e = rw e (stored_is h (λ k. full) (λ j l. (λ _. l, λ _. full_bit 64 (j % 64) (omega arith))))
-
-pub copy_is : {w w' : List ℕ} {x a : ℕ} {v : Words} → Has w x × Has w a → v ≡ loaded w a → w' ≡ stored w x v → Becomes w w' x (On w a)
-unfolding cell
-copy_is {w} {a = a} h d e = rw (e, d) (simp add-zero at (stored_is h.0 (λ k. get_or w (a * row_numbers + k) 0) (λ j _. Iff.rfl)))
-
--- row x made of rows a and b
-module _ {w w' : List ℕ} {x a b : ℕ} {p q : Words} (h : Has w x × (Has w a × Has w b)) (first : p ≡ loaded w a) (second : q ≡ loaded w b) where
-  paired_is : (f : ℕ → ℕ → ℕ) {P : ℕ → Type 0}
-      → ((j : ℕ) → j < most_vertices → (bit (f (get_or w (a * row_numbers + j / 64) 0) (get_or w (b * row_numbers + j / 64) 0)) (j % 64) ≡ 1) ↔ P j)
-      → w' ≡ stored w x (paired f p q) → Becomes w w' x P
-  paired_is f g e =
-      rw (e, first, second) (simp add-zero at (stored_is h.0 (λ k. f (get_or w (a * row_numbers + k) 0) (get_or w (b * row_numbers + k) 0)) g))
-
-  pub union_is : w' ≡ stored w x (paired bit_or p q) → Becomes w w' x (λ k. On w a k ⊎ On w b k)
-  unfolding cell
-  union_is = paired_is bit_or (λ j _. or_iff _ _ (j % 64))
-
-  pub subtract_is : w' ≡ stored w x (paired without p q) → Becomes w w' x (λ k. On w a k × (On w b k → ⊥))
-  unfolding cell
-  subtract_is = paired_is without (λ j _. without_iff _ _ (j % 64))
+pub making_all : {w w' : List ℕ} {r : ℕ} {R : ℕ → ℕ → Type 0} {i : ℕ} → Making w w' r R i → row_numbers ≤ i → Makes w w' r R
+making_all m h = record { keeps = m.keeps; made = λ k l. m.made k (omega arith) }
 
 -- ---- one bit
 module _ {w : List ℕ} {r j : ℕ} (h : Has w r) (l : j < most_vertices) where
-  abbrev spot : ℕ
-  spot = r * row_numbers + j / 64
-
-  -- bit j of a row, among its four numbers
-  mask : ℕ → ℕ
-  mask k = cond (eqb k (j / 64)) (one (j % 64)) 0
-
-  mask_iff : (k : ℕ) → (bit (mask (k / 64)) (k % 64) ≡ 1) ↔ (k ≡ j)
-  unfolding mask
-  mask_iff k = elim (ℕ_discrete (k / 64) (j / 64)) [
-    | yes p ↦
-        rw
-        (eq-eqb (k / 64) (j / 64) p)
-        (Iff.trans (one_iff (j % 64) (k % 64) (omega arith)) (λ e. omega arith, λ e. omega arith))
-    | no p ↦ rw (ne_eqb (k / 64) (j / 64) p) (λ e. absurd (no_bit (k % 64) e), λ e. absurd (p (omega arith)))
-  ]
-
-  -- f leaves a number as it is if no bit is set in the other
-  bit_is : (f : ℕ → ℕ → ℕ) → ((x : ℕ) → f x 0 ≡ x) → {P : ℕ → Type 0}
-      → ((k : ℕ) → k < most_vertices → (bit (f (get_or w (r * row_numbers + k / 64) 0) (mask (k / 64))) (k % 64) ≡ 1) ↔ P k)
-      → Becomes w (set w spot (f (get_or w spot 0) (one (j % 64)))) r P
-  unfolding mask
-  bit_is f z =
-      writes_all {v = λ k. f (get_or w (r * row_numbers + k) 0) (mask k)}
-      (record {
-        keeps = record { len = length-set w spot _; same = λ k n. get_or-set_other w spot k _ 0 (λ e. n (omega arith)) };
-        done = λ k q. get_d_set w spot _ (r * row_numbers + k) _ (omega arith)
-            (λ e. let p : k ≡ j / 64 = omega arith in rw (eq-eqb k (j / 64) p, p) refl)
-            (λ n. rw (ne_eqb k (j / 64) (λ p. n (omega arith)), z) refl);
-      })
-
-  pub mark_is : Becomes w (set w spot (bit_or (get_or w spot 0) (one (j % 64)))) r (λ k. On w r k ⊎ (k ≡ j))
+  -- the number that j is in is written
+  one_is : (v : ℕ) (P : ℕ → Type 0) → ((k : ℕ) → k < most_vertices → k / 64 ≡ j / 64 → (bit_at v (k % 64) ≡ 1) ↔ P k)
+      → ((k : ℕ) → k < most_vertices → (k ≡ j → ⊥) → On w r k ↔ P k) → Becomes w (set w (r * row_numbers + j / 64) v) r P
   unfolding cell
-  mark_is =
-      bit_is bit_or or_zero_r
-      (λ k _. Iff.trans (or_iff _ _ (k % 64)) (⊎_map (λ e. e) (mask_iff k).0, ⊎_map (λ e. e) (mask_iff k).1))
+  one_is v P f g =
+      record {
+        keeps = record {
+          len = length-set w _ _;
+          same = λ k n. get_or-set_other w (r * row_numbers + j / 64) k _ 0 (λ e. n (omega arith));
+        };
+        row = record { only = λ k n. (is k n).0; all = λ k n. (is k n).1 };
+      }
+    where
+      is : (k : ℕ) → k < most_vertices → (bit_at (number (set w (r * row_numbers + j / 64) v) r (k / 64)) (k % 64) ≡ 1) ↔ P k
+      is k n = set_is (λ y. (bit_at y (k % 64) ≡ 1) ↔ P k) w (r * row_numbers + j / 64) v (r * row_numbers + k / 64) (omega (arith, h.row, h.long))
+          (λ e. f k n (omega arith))
+          (λ e. g k n (λ q. e (rw q refl)))
 
-  pub unmark_is : Becomes w (set w spot (without (get_or w spot 0) (one (j % 64)))) r (λ k. On w r k × (k ≡ j → ⊥))
+  -- the other bits of the number
+  other : (v : ℕ) → ((i : ℕ) → i < 64 → i ≢ j % 64 → bit_at v i ≡ bit_at (number w r (j / 64)) i)
+      → (k : ℕ) → k / 64 ≡ j / 64 → (k ≡ j → ⊥) → (bit_at v (k % 64) ≡ 1) ↔ On w r k
   unfolding cell
-  unmark_is =
-      bit_is without (λ x. rw (and_zero_r, xor_zero_r))
-      (λ k _. Iff.trans (without_iff _ _ (k % 64)) (Iff.and Iff.rfl (Iff.not (mask_iff k))))
+  other v f k e n = let is = f (k % 64) (omega arith) (λ d. n (omega arith)) in rw (is, e) (λ y. y, λ y. y)
+
+  pub mark_is : Becomes w (set w (r * row_numbers + j / 64) (bit_or (number w r (j / 64)) (1 * 2 ^ (j % 64) % 2 ^ 64))) r (λ k. On w r k ⊎ (k ≡ j))
+  mark_is = one_is _ _
+      (λ k n e. elim (ℕ_discrete k j) [
+        | yes q ↦ rw q (λ y. inr refl, λ y. bit_at_set_same w64 _ (j % 64) (omega arith))
+        | no q ↦ Iff.trans (other _ (λ i _. bit_at_set_other w64 _ (j % 64) (omega arith) i) k e q) (kept k q)
+      ])
+      (λ k n. kept k)
+    where
+      kept : (k : ℕ) → (k ≡ j → ⊥) → On w r k ↔ (On w r k ⊎ (k ≡ j))
+      kept k n = (inl, ⊎_elim (λ y. y) (λ q. absurd (n q)))
+
+  pub unmark_is : Becomes w (set w (r * row_numbers + j / 64) (bit_and (number w r (j / 64)) (bit_not w64 (1 * 2 ^ (j % 64) % 2 ^ 64)))) r
+      (λ k. On w r k × (k ≡ j → ⊥))
+  unmark_is = one_is _ _
+      (λ k n e. elim (ℕ_discrete k j) [
+        | yes q ↦ rw q (λ y. absurd (omega (arith, bit_at_clear_same w64 (number w r (j / 64)) (j % 64) (omega arith))), λ y. absurd (y.1 refl))
+        | no q ↦ Iff.trans (other _ (bit_at_clear_other w64 _ (j % 64) (omega arith)) k e q) (kept k q)
+      ])
+      (λ k n. kept k)
+    where
+      kept : (k : ℕ) → (k ≡ j → ⊥) → On w r k ↔ (On w r k × (k ≡ j → ⊥))
+      kept k n = (λ y. (y, n), λ y. y.0)

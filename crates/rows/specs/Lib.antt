@@ -1,3 +1,3 @@
 pub mod Region
 pub mod Rows
-pub mod Four
+pub mod Numbers

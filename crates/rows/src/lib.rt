@@ -1,10 +1,11 @@
 // Sets of vertices as rows of bits in work memory: row r is the ROW numbers from r * ROW on, and bit j of it says whether vertex j is in it.
 #![tactic(auto)]
 
-ghost use Rattle.std.specs.Prelude.{◌≡◌, ◌⊎◌, ◌≤◌, ◌<◌};
+ghost use Rattle.std.specs.Prelude.{◌≡◌, ◌⊎◌, ◌≤◌, ◌<◌, ◌+◌, ◌*◌, ◌/◌};
 ghost use Rattle.model.specs.Limits.{most_vertices};
+ghost use Rattle.rows.specs.Region.{row_numbers, work_rows};
 ghost use Rattle.rows.specs.Rows.{cell, On, Has, Becomes, NextVertex, FirstInBoth};
-ghost use Rattle.rows.specs.Four.{loaded, stored};
+ghost use Rattle.rows.specs.Numbers.{number, Makes};
 
 use model::{MOST_EDGES, MOST_LABEL, MOST_LONGEST, MOST_VERTICES};
 
@@ -33,14 +34,20 @@ pub const PICKED: usize = REST + 1;
 // The first of the numbers that edge memory is saved in.
 pub const SAVED: usize = SAVED_ROWS * ROW;
 
+// The number that bit j of row r is in: there it is bit j % BITS.
+fn spot(r: usize, j: usize) -> usize
+    requires { (r < work_rows) × (j < most_vertices) }
+    ensures { result ≡ r * row_numbers + j / 64 }
+{
+    r * ROW + j / BITS
+}
+
 // Bit j of row r, 0 or 1.
 pub fn bit(w: &[u64], r: usize, j: usize) -> u64
     requires { Has w.now r × (j < most_vertices) }
     ensures { result ≡ cell w.now r j }
 {
-    let x = w[r * ROW + j / BITS];
-    let s = (j % BITS) as u64;
-    (x >> s) % 2
+    (w[spot(r, j)] >> (j % BITS)) % 2
 }
 
 // Puts j into row r, and takes it out.
@@ -48,52 +55,25 @@ pub fn mark(w: &mut [u64], r: usize, j: usize)
     requires { Has w.old r × (j < most_vertices) }
     ensures { Becomes w.old w.new r (λ k. On w.old r k ⊎ (k ≡ j)) }
 {
-    let i = r * ROW + j / BITS;
-    let s = (j % BITS) as u64;
-    w[i] = w[i] | (1 << s);
+    w[spot(r, j)] |= 1 << (j % BITS);
 }
 
 pub fn unmark(w: &mut [u64], r: usize, j: usize)
     requires { Has w.old r × (j < most_vertices) }
     ensures { Becomes w.old w.new r (λ k. On w.old r k × (k ≡ j → ⊥)) }
 {
-    let i = r * ROW + j / BITS;
-    let s = (j % BITS) as u64;
-    let v = w[i];
-    w[i] = v ^ (v & (1 << s));
+    w[spot(r, j)] &= !(1 << (j % BITS));
 }
 
-// The four numbers of a row.
-#[derive(Clone, Copy)]
-struct Words {
-    a: u64,
-    b: u64,
-    c: u64,
-    d: u64,
-}
-
-fn load(w: &[u64], r: usize) -> Words
-    requires { Has w.now r }
-    ensures { result ≡ loaded w.now r }
+// Makes each number of row x what `combined` makes of the two at its place in rows a and b. x may be a or b.
+fn combine<F: Fn(u64, u64) -> u64>(w: &mut [u64], x: usize, a: usize, b: usize, combined: F)
+    requires rows { Has w.old x × (Has w.old a × Has w.old b) }
+    requires calls { F.IsAlwaysCallable combined }
+    ensures { Makes w.old w.new x (λ i y. F.post combined (number w.old a i) (number w.old b i) y) }
 {
-    let i = r * ROW;
-    Words {
-        a: w[i],
-        b: w[i + 1],
-        c: w[i + 2],
-        d: w[i + 3],
+    for i in 0..ROW {
+        w[x * ROW + i] = combined(w[a * ROW + i], w[b * ROW + i]);
     }
-}
-
-fn store(w: &mut [u64], r: usize, v: Words)
-    requires { Has w.old r }
-    ensures { w.new ≡ stored w.old r v }
-{
-    let i = r * ROW;
-    w[i] = v.a;
-    w[i + 1] = v.b;
-    w[i + 2] = v.c;
-    w[i + 3] = v.d;
 }
 
 // Makes row x the vertices in row a or row b; in row a and not in row b. x may be a or b.
@@ -101,30 +81,14 @@ pub fn union(w: &mut [u64], x: usize, a: usize, b: usize)
     requires { Has w.old x × (Has w.old a × Has w.old b) }
     ensures { Becomes w.old w.new x (λ k. On w.old a k ⊎ On w.old b k) }
 {
-    let p = load(w, a);
-    let q = load(w, b);
-    let v = Words {
-        a: p.a | q.a,
-        b: p.b | q.b,
-        c: p.c | q.c,
-        d: p.d | q.d,
-    };
-    store(w, x, v);
+    combine(w, x, a, b, |p, q| p | q);
 }
 
 pub fn subtract(w: &mut [u64], x: usize, a: usize, b: usize)
     requires { Has w.old x × (Has w.old a × Has w.old b) }
     ensures { Becomes w.old w.new x (λ k. On w.old a k × (On w.old b k → ⊥)) }
 {
-    let p = load(w, a);
-    let q = load(w, b);
-    let v = Words {
-        a: p.a ^ (p.a & q.a),
-        b: p.b ^ (p.b & q.b),
-        c: p.c ^ (p.c & q.c),
-        d: p.d ^ (p.d & q.d),
-    };
-    store(w, x, v);
+    combine(w, x, a, b, |p, q| p & !q);
 }
 
 // Makes row x the vertices of row a.
@@ -132,8 +96,15 @@ pub fn copy(w: &mut [u64], x: usize, a: usize)
     requires { Has w.old x × Has w.old a }
     ensures { Becomes w.old w.new x (On w.old a) }
 {
-    let v = load(w, a);
-    store(w, x, v);
+    combine(w, x, a, a, |p, _| p);
+}
+
+// Makes each number of row r the same.
+fn set(w: &mut [u64], r: usize, value: u64)
+    requires { Has w.old r }
+    ensures { Makes w.old w.new r (λ i y. y ≡ value) }
+{
+    w[r * ROW..r * ROW + ROW].fill(value);
 }
 
 // Makes row r all vertices, and none.
@@ -141,27 +112,14 @@ pub fn fill(w: &mut [u64], r: usize)
     requires { Has w.old r }
     ensures { Becomes w.old w.new r (λ k. k < most_vertices) }
 {
-    let all = 18446744073709551615;
-    let v = Words {
-        a: all,
-        b: all,
-        c: all,
-        d: all,
-    };
-    store(w, r, v);
+    set(w, r, u64::MAX);
 }
 
 pub fn clear(w: &mut [u64], r: usize)
     requires { Has w.old r }
     ensures { Becomes w.old w.new r (λ k. ⊥) }
 {
-    let v = Words {
-        a: 0,
-        b: 0,
-        c: 0,
-        d: 0,
-    };
-    store(w, r, v);
+    set(w, r, 0);
 }
 
 // The first vertex of row r from p on.

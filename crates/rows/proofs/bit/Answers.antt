@@ -1,8 +1,7 @@
 -- `rows::bit` meets its contract.
-use mathlib.Core.Path.{refl}
 use Rattle.rows.specs.Rows.{cell}
 use Rattle.rows.proofs.bit.Goals as goal
 
 pub returns : goal.returns
 unfolding cell
-returns c = refl
+returns c = rw c.spot.ensures

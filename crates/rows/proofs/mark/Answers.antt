@@ -3,4 +3,4 @@ use Rattle.rows.proofs.Writes.{mark_is}
 use Rattle.rows.proofs.mark.Goals as goal
 
 pub returns : goal.returns
-returns c = mark_is c.requires.0 c.requires.1
+returns c = rw c.spot.ensures (mark_is c.requires.0 c.requires.1)

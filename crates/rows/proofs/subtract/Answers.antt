@@ -1,11 +1,7 @@
 -- `rows::subtract` meets its contract.
+use Rattle.std.proofs.Common.{rules}
 use Rattle.rows.proofs.Writes.{subtract_is}
 use Rattle.rows.proofs.subtract.Goals as goal
 
-pub store-requires : goal.store-requires
-store-requires c =
-    c.requires.0
-
 pub returns : goal.returns
-returns c =
-    subtract_is c.requires c.load-p.ensures c.load-q.ensures c.store.ensures
+returns c = subtract_is _ _ (λ i. search rules) (λ i y e. search rules) c.combine.ensures

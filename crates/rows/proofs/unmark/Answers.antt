@@ -3,4 +3,4 @@ use Rattle.rows.proofs.Writes.{unmark_is}
 use Rattle.rows.proofs.unmark.Goals as goal
 
 pub returns : goal.returns
-returns c = unmark_is c.requires.0 c.requires.1
+returns c = rw c.spot.ensures (unmark_is c.requires.0 c.requires.1)
