@@ -9,7 +9,7 @@ use Rattle.model.specs.Limits.{most_vertices}
 use Rattle.model.specs.Build.Hubs.{Plus, one}
 use Rattle.model.proofs.Plus.{plus_then, first_step, plus_onward, plus_in, plus_flat, plus_map}
 use Rattle.rows.specs.Region.{open_row, rest_row}
-use Rattle.rows.specs.Rows.{On, KeepsRows, NextVertex, StepsTo, Domain}
+use Rattle.rows.specs.Rows.{On, KeepsRows, FirstFrom, NoneFrom, StepsTo, Domain}
 use Rattle.rows.proofs.Rows.{keeps_none, keeps_as, keeps_then, keeps_cell, keeps_domain}
 use Rattle.closure.specs.Closing.{Closable, Closes}
 use Rattle.closure.specs.Turns.{WholeRow, ClosesRow}
@@ -39,17 +39,26 @@ module _ {w v : List ℕ} {a : ℕ} (m : Closing w v a) where
   rests {x = x} c s r =
       keeps_cell m.keeps rest_row (omega arith, λ e. omega arith) x s.from ∙ c.rest x (plus_onward (m.only _ _ s) (m.only _ _ r))
 
-  pub closing_on : {d a' : ℕ} → Closable w d → NextVertex v rest_row a a' → Closing w v a'
-  closing_on c n =
-      record {
-        keeps = m.keeps;
-        old = m.old;
-        only = m.only;
-        whole = λ x h. elim (dec_lt x a) [
-          | yes l ↦ m.whole x l
-          | no l ↦ record { through = λ y b s r. absurd (n.gap x (omega arith) h (rests c s r)) }
-        ];
-      }
+  -- a vertex that is not in row `rest` is whole as it is
+  module _ {d : ℕ} (c : Closable w d) where
+    rests_all : (n : ℕ) → ((x : ℕ) → a ≤ x → x < n → On v rest_row x → ⊥) → (x : ℕ) → x < n → WholeRow v x
+    rests_all n none x h = elim (dec_lt x a) [
+      | yes l ↦ m.whole x l
+      | no l ↦ record { through = λ y b s r. absurd (none x (omega arith) h (rests c s r)) }
+    ]
+
+    pub closing_on : {b : ℕ} → FirstFrom v rest_row a b → Closing w v b
+    closing_on n = record { keeps = m.keeps; old = m.old; only = m.only; whole = rests_all _ n.gap }
+
+    pub closing_all : NoneFrom v rest_row a → Closes w v
+    closing_all n =
+        record {
+          keeps = m.keeps;
+          is = λ x b. (
+            m.only x b,
+            λ q. whole_all (rests_all most_vertices n.gap x (first_step q).1.from) (plus_map m.old q),
+          );
+        }
 
   pub closing_more : {v' : List ℕ} → a < most_vertices → ClosesRow v v' a → Closing w v' (a + 1)
   closing_more {v'} h t =
@@ -77,13 +86,3 @@ module _ {w v : List ℕ} {a : ℕ} (m : Closing w v a) where
         | yes e ↦ rw e ((t.is b).1 (rw e at q))
         | no n ↦ grows x b (whole_all (m.whole x (omega arith)) q)
       ]
-
-  pub closing_all : most_vertices ≤ a → Closes w v
-  closing_all h =
-      record {
-        keeps = m.keeps;
-        is = λ x b. (
-          m.only x b,
-          λ q. whole_all (m.whole x (omega (arith, (first_step q).1.from))) (plus_map m.old q),
-        );
-      }

@@ -1,5 +1,4 @@
 -- The closing of row a, turn by turn.
-use mathlib.Core.Path.{◌≡◌}
 use mathlib.Core.List.{List}
 use mathlib.Core.Logic.{◌⊎◌, inl, inr, ⊎_elim, ⊎_map, ◌↔◌, ◌≢◌}
 use Prim.Native.Nat.{ℕ, ◌<◌}
@@ -9,7 +8,7 @@ use Rattle.model.specs.Limits.{most_vertices}
 use Rattle.model.specs.Build.Hubs.{Plus, one}
 use Rattle.model.proofs.Plus.{plus_then, plus_in, plus_as}
 use Rattle.rows.specs.Region.{open_row}
-use Rattle.rows.specs.Rows.{cell, On, KeepsRows, Becomes, FirstInBoth, StepsTo}
+use Rattle.rows.specs.Rows.{cell, On, KeepsRows, Becomes, FirstShared, NoneShared, StepsTo}
 use Rattle.rows.proofs.Rows.{cell_lt, cell_cases, keeps_none, keeps_then, keeps_step, keeps_steps}
 use Rattle.closure.specs.Turns.{WholeRow, RowClosable, Beside, ClosesRow, TakesIn}
 use Rattle.closure.proofs.Sums.{sum, sum_falls}
@@ -50,21 +49,22 @@ module _ {w w₁ : List ℕ} {d a : ℕ} (r : RowClosable w d a) (j : Becomes w 
         is = λ b. (λ s. (plus_as same a b).0 ((c.is b).0 s), λ q. (c.is b).1 ((plus_as same a b).1 q));
       }
 
--- ---- a turn: p is the first of row a's open vertices
-module _ {w v : List ℕ} {a p : ℕ} (m : Looked w v a) (n : FirstInBoth v a open_row p) where
-  -- if there is none, row a is closed
-  pub looked_all : p ≡ most_vertices → ClosesRow w v a
-  looked_all e = record { keeps = m.keeps; is = λ b. (m.only b, plus_in (StepsTo v a) on m.old) }
+-- ---- a turn
+module _ {w v : List ℕ} {a : ℕ} (m : Looked w v a) where
+  -- if none of row a's vertices is open, row a is closed
+  pub looked_all : NoneShared v a open_row → ClosesRow w v a
+  looked_all n = record { keeps = m.keeps; is = λ b. (m.only b, plus_in (StepsTo v a) on m.old) }
     where
       on : (x y : ℕ) → StepsTo v a x → StepsTo w x y → StepsTo v a y
-      on x y s d = ⊎_elim (λ o. absurd (n.gap x (omega (arith, s.to)) s.on o)) (λ q. q) (m.looked x y d)
+      on x y s d = ⊎_elim (λ o. absurd (n.gap x s.to s.on o)) (λ q. q) (m.looked x y d)
 
-  module _ (l : p < most_vertices) {v' : List ℕ} (k : TakesIn v v' a p) where
+  -- p is the first of them
+  module _ {p : ℕ} (n : FirstShared v a open_row p) {v' : List ℕ} (k : TakesIn v v' a p) where
     -- the steps of p, as they were first
     own : (b : ℕ) → StepsTo w p b → StepsTo v a b ⊎ StepsTo v p b
     own b s = elim (ℕ_discrete p a) [
       | yes e ↦ inl (m.old b (rw e at s))
-      | no d ↦ inr ((beside_step m.keeps l d b).1 s)
+      | no d ↦ inr ((beside_step m.keeps n.high d b).1 s)
     ]
 
     pub looked_more : a < most_vertices → ((x : ℕ) → x < a → WholeRow w x) → Looked w v' a
@@ -79,7 +79,7 @@ module _ {w v : List ℕ} {a p : ℕ} (m : Looked w v a) (n : FirstInBoth v a op
         via : (b : ℕ) → StepsTo v p b → Plus (StepsTo w) a b
         via b s = elim (ℕ_discrete p a) [
           | yes e ↦ m.only b (rw e at s)
-          | no d ↦ plus_then (m.only p (record { from = h; to = l; on = (n.here l).0 })) (one ((beside_step m.keeps l d b).0 s))
+          | no d ↦ plus_then (m.only p (record { from = h; to = n.high; on = n.here.0 })) (one ((beside_step m.keeps n.high d b).0 s))
         ]
 
         -- a vertex that is open no more
@@ -87,9 +87,9 @@ module _ {w v : List ℕ} {a p : ℕ} (m : Looked w v a) (n : FirstInBoth v a op
         taken x y s o = ⊎_map (λ q. q) (λ q. (k.is y).1 (⊎_elim (λ e. own y (rw e at s)) (λ g. own y (closed g.0 g.1)) q)) (k.left x s.from o)
           where
             closed : p < a → On v p x → StepsTo w p y
-            closed g q = (f p g).through x y ((beside_step m.keeps l (λ e. omega arith) x).0 (record { from = l; to = s.from; on = q })) s
+            closed g q = (f p g).through x y ((beside_step m.keeps n.high (λ e. omega arith) x).0 (record { from = n.high; to = s.from; on = q })) s
 
     pub looked_falls : sum (cell v' open_row) most_vertices < sum (cell v open_row) most_vertices
-    looked_falls = sum_falls most_vertices p l
+    looked_falls = sum_falls most_vertices p n.high
         (λ j i. ⊎_elim (λ e. omega arith) (λ e. omega (arith, k.less j i e)) (cell_cases v' open_row j))
-        (omega (arith, (n.here l).1, k.gone, cell_lt v' open_row p))
+        (omega (arith, n.here.1, k.gone, cell_lt v' open_row p))

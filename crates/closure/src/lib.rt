@@ -6,8 +6,6 @@ ghost use Rattle.model.specs.Limits.{most_vertices, least_work};
 ghost use Rattle.closure.specs.Closing.{Closable, Closes};
 ghost use Rattle.closure.specs.Turns.{RowClosable, ClosesRow, TakesIn};
 
-use model::MOST_VERTICES;
-
 // Merges row p into row a. Vertex p is open no more, nor is any of row p if that row is closed already.
 fn take_in(w: &mut [u64], a: usize, p: usize)
     requires { (a < most_vertices) × ((p < most_vertices) × (least_work ≤ length w.old)) }
@@ -26,11 +24,7 @@ fn close_row(w: &mut [u64], domain: usize, a: usize)
     ensures { ClosesRow w.old w.new a }
 {
     rows::copy(w, rows::OPEN, domain);
-    loop {
-        let p = rows::common(w, a, rows::OPEN);
-        if p == MOST_VERTICES {
-            return;
-        }
+    while let Some(p) = rows::common(w, a, rows::OPEN) {
         take_in(w, a, p);
     }
 }
@@ -41,9 +35,9 @@ pub fn close(w: &mut [u64], domain: usize)
     requires { Closable w.old domain }
     ensures { Closes w.old w.new }
 {
-    let mut a = rows::next(w, rows::REST, 0);
-    while a < MOST_VERTICES {
+    let mut from = 0;
+    while let Some(a) = rows::next(w, rows::REST, from) {
         close_row(w, domain, a);
-        a = rows::next(w, rows::REST, a + 1);
+        from = a + 1;
     }
 }

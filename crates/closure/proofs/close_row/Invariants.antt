@@ -6,8 +6,8 @@ use Rattle.closure.proofs.Sums.{sum}
 use Rattle.closure.proofs.Looked.{Looked}
 use Rattle.closure.proofs.close_row.Given as goal
 
-abbrev pub invariant-loop-domain : goal.invariant-loop-domain
-invariant-loop-domain l = Looked l.initial.w l.w l.a
+abbrev pub invariant-loop-p : goal.invariant-loop-p
+invariant-loop-p l = Looked l.initial.w l.w l.a
 
-abbrev pub decreases-loop-domain : goal.decreases-loop-domain
-decreases-loop-domain l = sum (cell l.w open_row) most_vertices
+abbrev pub decreases-loop-p : goal.decreases-loop-p
+decreases-loop-p l = sum (cell l.w open_row) most_vertices
