@@ -14,7 +14,7 @@ use Rattle.std.specs.Int.{bit_at}
 use Rattle.model.specs.Limits.{most_vertices}
 use Rattle.rows.specs.Region.{row_numbers}
 use Rattle.rows.specs.Rows.{cell, On, FirstFrom, NoneFrom, FirstShared, NoneShared}
-use Rattle.rows.proofs.Bits.{no_bit, bit_below, and_iff, Lowest, trailing}
+use Rattle.rows.proofs.Bits.{no_bit, bit_below, and_iff, Lowest, lowest}
 
 -- no vertex of P from p on is in the first i numbers
 pub record Gap (P : ℕ → Type 0) (p i : ℕ) : Type 0 where
@@ -46,7 +46,7 @@ module _ {P : ℕ → Type 0} {p i q x : ℕ} (m : Gap P p i) (h : i < row_numbe
   first_found : (x ≡ 0 → ⊥) → x < 2 ^ 64 → ((t : ℕ) → bit_at x t ≡ 1 → q % 64 + t < 64) → First P p (q + count_trailing_zeros 64 x)
   first_found n small inside =
       let t = count_trailing_zeros 64 x in
-      let first : Lowest x t = trailing x small n in
+      let first : Lowest x t = lowest x small n in
       let within : q % 64 + t < 64 = inside t first.here in
       let back : (q + t) - q ≡ t = omega arith in
       record {
