@@ -103,19 +103,25 @@ fn join(out: &[u64], into: &[u64], code: u64) -> bool
     requires { Joinable out.now into.now }
     ensures { Joins out.now into.now code result }
 {
+    let mut found = false;
     let mut j = 0;
-    for &entry in out {
+    'join: for &entry in out {
         let x = entry % OWNER_UNIT;
         if x % HUB_UNIT == code {
-            while j < into.len() && into[j] % OWNER_UNIT < x {
+            while j < into.len() {
+                let z = into[j] % OWNER_UNIT;
+                if x == z {
+                    found = true;
+                    break 'join;
+                }
+                if x < z {
+                    break;
+                }
                 j += 1;
-            }
-            if j < into.len() && into[j] % OWNER_UNIT == x {
-                return true;
             }
         }
     }
-    false
+    found
 }
 
 // What follows check 12: the query by a pattern that is its own minimum repeat, put to the entries alone (no zeros behind them).
