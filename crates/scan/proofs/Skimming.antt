@@ -29,8 +29,10 @@ module _ {index : List ℕ} {from prev end hubs : ℕ} {seen : List ℕ} where
     pub skim_rest : get_or index i 0 ≤ last → Skims index from prev end hubs seen (Rest i)
     skim_rest l = record { slot = m.high; same = λ v k s w h. m.same v k s w h ∙ scan_rest v k last index i l }
 
-    pub skim_end : length index ≤ i → Skims index from prev end hubs seen (Rest i)
-    skim_end h = skim_rest (omega (arith, get_or-eq_default index 0 h))
+    pub skim_end : length index ≤ i → Skims index from prev end hubs seen (Rest (length index))
+    skim_end h =
+        let e : i ≡ length index = omega (arith, m.high) in
+        rw e at (skim_rest (omega (arith, get_or-eq_default index 0 h)))
 
     module _ (h : i < length index) (l : last < get_or index i 0) where
       pub skim_untested : Skims index from prev end hubs seen (Untested i)

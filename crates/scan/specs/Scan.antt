@@ -4,8 +4,7 @@ use Rattle.model.specs.Limits.{most_vertices, owner_unit}
 use Rattle.model.specs.Computed.Edges.{zeros?}
 use Rattle.model.specs.Computed.Query.{side_of, owner_of, hub_of, code?, entry?}
 use Rattle.scan.specs.Memory.{scan_from}
-use Rattle.scan.specs.declared.Extent.{Extent}
-use Rattle.scan.specs.declared.Extent.TheVariants.{Entries, Invalid}
+use Rattle.std.specs.Prelude.{Option, Some, None}
 use Rattle.scan.specs.declared.Exit.{Exit}
 use Rattle.scan.specs.declared.Exit.TheVariants.{Rest, Untested, Stray}
 
@@ -46,11 +45,11 @@ pub record HubsBelow (vertices hubs : ℕ) : Type 0 where
   pub wrong : (x : ℕ) → hubs ≤ x % owner_unit → (longest : ℕ) → entry? vertices longest x ≡ false
 
 -- what check 12 finds, by how its fast loop is left
-abbrev pub extent_at : ℕ → ℕ → List ℕ → Exit → Extent
-extent_at vertices longest index (Rest at) = cond (zeros? (drop at index)) (Entries at) Invalid
+abbrev pub extent_at : ℕ → ℕ → List ℕ → Exit → Option ℕ
+extent_at vertices longest index (Rest at) = cond (zeros? (drop at index)) (Some at) None
 extent_at vertices longest index (Untested at) =
-    cond (entry? vertices longest (get_or index at 0)) (scan_from vertices longest (get_or index at 0) (at + 1) (drop (at + 1) index)) Invalid
-extent_at vertices longest index Stray = Invalid
+    cond (entry? vertices longest (get_or index at 0)) (scan_from vertices longest (get_or index at 0) (at + 1) (drop (at + 1) index)) None
+extent_at vertices longest index Stray = None
 
 -- the slot at which it is left is one of the memory, and an untested entry is none of those before `from`
 abbrev pub ExitSlot : List ℕ → ℕ → Exit → Type 0

@@ -6,17 +6,7 @@ ghost use Rattle.model.specs.Limits.{hub_unit};
 ghost use Rattle.scan.specs.Memory.{extent_of};
 ghost use Rattle.scan.specs.Scan.{slot_of, Seen, Examines, FieldEnd, Skims};
 
-use model::{HUB_UNIT, MOST_VERTICES, OWNER_UNIT, SIDE_UNIT};
-
-// The numbers that an owner's field and a hub's field hold.
-const FIELD: u64 = MOST_VERTICES as u64;
-
-// What check 12 finds: how many entries stand, or that this is no index memory of the graph.
-#[derive(Clone, Copy)]
-pub enum Extent {
-    Entries(usize),
-    Invalid,
-}
+use model::{HUB_UNIT, OWNER_UNIT, SIDE_UNIT, Size, VERTICES};
 
 // A code as it is kept: CODE_DIGITS digits fit.
 type Kept = u16;
@@ -36,21 +26,21 @@ fn slot(code: u64) -> usize
 
 // Whether x is an entry of the graph. If it is, its code is kept in `seen`, which spares the next with that code the test.
 #[tactic(auto, using(crate::proofs::Fields::no_side))]
-fn is_entry(vertices: u32, longest: u32, x: u64, seen: &mut [Kept; SLOTS]) -> bool
-    requires { Seen longest seen.old }
-    ensures { Examines vertices longest x seen.new result }
+fn is_entry(size: Size, x: u64, seen: &mut [Kept; SLOTS]) -> bool
+    requires { Seen size.longest seen.old }
+    ensures { Examines size.vertices size.longest x seen.new result }
 {
     if 2 <= x / SIDE_UNIT {
         return false;
     }
-    if vertices as u64 <= x / OWNER_UNIT % FIELD {
+    if size.vertices as u64 <= x / OWNER_UNIT % VERTICES {
         return false;
     }
-    if vertices as u64 <= x / HUB_UNIT % FIELD {
+    if size.vertices as u64 <= x / HUB_UNIT % VERTICES {
         return false;
     }
     let code = x % HUB_UNIT;
-    if codes::is_code(longest, code) {
+    if codes::is_code(size.longest, code) {
         let at = slot(code);
         seen[at] = code as Kept;
         return true;
@@ -62,10 +52,7 @@ fn is_entry(vertices: u32, longest: u32, x: u64, seen: &mut [Kept; SLOTS]) -> bo
 fn field_end(vertices: u32) -> u64
     ensures { FieldEnd vertices result }
 {
-    if vertices < MOST_VERTICES as u32 {
-        return vertices as u64;
-    }
-    FIELD
+    VERTICES.min(vertices as u64)
 }
 
 // Why check 12 leaves its fast loop. As each way out leads elsewhere, the compiler keeps the tests apart, which is faster than one of all.
@@ -84,9 +71,8 @@ fn skim(index: &[u64], from: usize, prev: u64, end: u64, hubs: u64, seen: &[Kept
     requires { from ≤ length index.now }
     ensures { Skims index.now from prev end hubs seen.now result }
 {
-    let mut i = from;
     let mut last = prev;
-    while i < index.len() {
+    for i in from..index.len() {
         let x = index[i];
         if x <= last {
             return Exit::Rest(i);
@@ -99,45 +85,41 @@ fn skim(index: &[u64], from: usize, prev: u64, end: u64, hubs: u64, seen: &[Kept
         }
         let code = x % HUB_UNIT;
         let at = slot(code);
-        if seen[at] == code as Kept {
-            last = x;
-            i += 1;
-        } else {
+        if seen[at] != code as Kept {
             return Exit::Untested(i);
         }
+        last = x;
     }
-    Exit::Rest(i)
+    Exit::Rest(index.len())
 }
 
-// Check 12, in one pass. From the last entry to `end`, side and owner are right.
-pub fn scan(vertices: u32, longest: u32, index: &[u64]) -> Extent
-    ensures { result ≡ extent_of vertices longest index.now }
+// Check 12, in one pass: how many entries stand, if this is index memory of the graph. From the last entry to `end`, side and owner are right.
+pub fn scan(size: Size, index: &[u64]) -> Option<usize>
+    ensures { result ≡ extent_of size.vertices size.longest index.now }
 {
     // no code is kept yet; as 0 is none, its slot, 0, holds another number
     let mut seen: [Kept; SLOTS] = [0; SLOTS];
     seen[0] = 1;
-    let n = field_end(vertices);
+    let n = field_end(size.vertices);
     let mut i = 0;
     let mut prev: u64 = 0;
     let mut end: u64 = 0;
     loop {
-        let exit = skim(index, i, prev, end, n * HUB_UNIT, &seen);
-        match exit {
-            Exit::Stray => return Extent::Invalid,
+        match skim(index, i, prev, end, n * HUB_UNIT, &seen) {
+            Exit::Stray => return None,
             Exit::Rest(at) => {
-                if memory::all_zero_u64(&index[at..]) {
-                    return Extent::Entries(at);
+                if memory::all_zero(&index[at..]) {
+                    return Some(at);
                 }
-                return Extent::Invalid;
+                return None;
             }
             Exit::Untested(at) => {
                 prev = index[at];
-                if is_entry(vertices, longest, prev, &mut seen) {
-                    end = prev / SIDE_UNIT * SIDE_UNIT + n * OWNER_UNIT;
-                    i = at + 1;
-                } else {
-                    return Extent::Invalid;
+                if !is_entry(size, prev, &mut seen) {
+                    return None;
                 }
+                end = prev / SIDE_UNIT * SIDE_UNIT + n * OWNER_UNIT;
+                i = at + 1;
             }
         }
     }

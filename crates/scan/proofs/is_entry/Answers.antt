@@ -8,15 +8,15 @@ use Rattle.scan.proofs.is_entry.Goals as goal
 use Rattle.scan.proofs.is_entry.Goals.{After-is_code}
 
 -- the other fields are right
-coded : (c : After-is_code) {b : Bool} → code? c.args.longest (code_of c.args.x) ≡ b
-    → entry? c.args.vertices c.args.longest c.args.x ≡ b
-coded c e = code_entry _ _ _ (omega arith) c.if-vertices-x.false c.if-vertices-x-2.false e
+coded : (c : After-is_code) {b : Bool} → code? c.args.size.longest (code_of c.args.x) ≡ b
+    → entry? c.args.size.vertices c.args.size.longest c.args.x ≡ b
+coded c e = code_entry _ _ _ (omega arith) c.if-size-x.false c.if-size-x-2.false e
 
-pub returns-then-vertices-x : goal.returns-then-vertices-x
-returns-then-vertices-x c = record { is = sym (no_entry _ _ _ (λ v. omega (arith, v.owner, c.if-vertices-x.true))); seen = c.requires }
+pub returns-then-size-x : goal.returns-then-size-x
+returns-then-size-x c = record { is = sym (no_entry _ _ _ (λ v. omega (arith, v.owner, c.if-size-x.true))); seen = c.requires }
 
-pub returns-then-vertices-x-2 : goal.returns-then-vertices-x-2
-returns-then-vertices-x-2 c = record { is = sym (no_entry _ _ _ (λ v. omega (arith, v.hub, c.if-vertices-x-2.true))); seen = c.requires }
+pub returns-then-size-x-2 : goal.returns-then-size-x-2
+returns-then-size-x-2 c = record { is = sym (no_entry _ _ _ (λ v. omega (arith, v.hub, c.if-size-x-2.true))); seen = c.requires }
 
 pub returns-then-is_code : goal.returns-then-is_code
 returns-then-is_code c =

@@ -10,7 +10,7 @@ use Rattle.model.specs.Computed.Query.{side_of, entry?}
 use Rattle.model.proofs.Checked.{checked_zeros}
 use Rattle.scan.specs.Memory.{extent_of, scan_from}
 use Rattle.scan.specs.Scan.{FieldEnd, Seen, Within, Skims, extent_at}
-use Rattle.scan.specs.declared.Extent.TheVariants.{Entries, Invalid}
+use Rattle.std.proofs.Common.{Some, None}
 use Rattle.scan.specs.declared.Exit.{Exit}
 use Rattle.scan.proofs.Fields.{seen_none, hubs_below, within, entry_side}
 use Rattle.scan.proofs.Scanning.{scan_start}
@@ -29,34 +29,34 @@ pub returns-in-Stray : goal.returns-in-Stray
 returns-in-Stray c = sym (skimmed c.in-Stray.ensures c.field_end-n.ensures c.loop-at.invariant)
 
 -- at the rest
-pub returns-then-all_zero_u64 : goal.returns-then-all_zero_u64
-returns-then-all_zero_u64 c =
+pub returns-then-all_zero : goal.returns-then-all_zero
+returns-then-all_zero c =
     sym (skimmed c.in-Rest.ensures c.field_end-n.ensures c.loop-at.invariant
-    ∙ checked_zeros Entries Invalid c.args.index.now c.in-Rest.at true (sym c.all_zero_u64.ensures ∙ c.if-all_zero_u64.true))
+    ∙ checked_zeros Some None c.args.index.now c.in-Rest.at true (sym c.all_zero.ensures ∙ c.if-all_zero.true))
 
 pub returns-in-Rest : goal.returns-in-Rest
 returns-in-Rest c =
     sym (skimmed c.in-Rest.ensures c.field_end-n.ensures c.loop-at.invariant
-    ∙ checked_zeros Entries Invalid c.args.index.now c.in-Rest.at false (sym c.all_zero_u64.ensures ∙ c.if-all_zero_u64.false))
+    ∙ checked_zeros Some None c.args.index.now c.in-Rest.at false (sym c.all_zero.ensures ∙ c.if-all_zero.false))
 
 -- at an entry that is to be looked at
 pub overflow_add-end : goal.overflow_add-end
 overflow_add-end c =
-    let h : side_of (get_or c.args.index.now c.in-Untested.at 0) < 2 = entry_side c.args.vertices _ _ (sym c.is_entry.ensures.is ∙ c.if-is_entry.true) in
+    let h : side_of (get_or c.args.index.now c.in-Untested.at 0) < 2 = entry_side c.args.size.vertices _ _ (sym c.is_entry.ensures.is ∙ c.if-not-is_entry.false) in
     search rules
 
 pub loop-at-preserved : goal.loop-at-preserved
 loop-at-preserved c =
-    let e : entry? c.args.vertices c.args.longest (get_or c.args.index.now c.in-Untested.at 0) ≡ true = sym c.is_entry.ensures.is ∙ c.if-is_entry.true in
+    let e : entry? c.args.size.vertices c.args.size.longest (get_or c.args.index.now c.in-Untested.at 0) ≡ true = sym c.is_entry.ensures.is ∙ c.if-not-is_entry.false in
     let s : Skims _ _ _ _ _ _ _ = c.in-Untested.ensures in (
       omega (arith, s.slot.1),
       (
         sym (rw e at (skimmed s c.field_end-n.ensures c.loop-at.invariant)),
-        (c.is_entry.ensures.seen, within c.field_end-n.ensures _ (entry_side c.args.vertices _ _ e)),
+        (c.is_entry.ensures.seen, within c.field_end-n.ensures _ (entry_side c.args.size.vertices _ _ e)),
       ),
     )
 
-pub returns-else-is_entry : goal.returns-else-is_entry
-returns-else-is_entry c =
-    let e : entry? c.args.vertices c.args.longest (get_or c.args.index.now c.in-Untested.at 0) ≡ false = sym c.is_entry.ensures.is ∙ c.if-is_entry.false in
+pub returns-then-not-is_entry : goal.returns-then-not-is_entry
+returns-then-not-is_entry c =
+    let e : entry? c.args.size.vertices c.args.size.longest (get_or c.args.index.now c.in-Untested.at 0) ≡ false = sym c.is_entry.ensures.is ∙ c.if-not-is_entry.true in
     sym (rw e at (skimmed c.in-Untested.ensures c.field_end-n.ensures c.loop-at.invariant))

@@ -10,7 +10,7 @@ use Rattle.scan.proofs.scan.Given as goal
 abbrev pub invariant-loop-at : goal.invariant-loop-at
 invariant-loop-at l =
     (l.i ≤ length l.index)
-    × ((scan_from l.vertices l.longest l.prev l.i (drop l.i l.index) ≡ extent_of l.vertices l.longest l.index) × (Seen l.longest l.seen × Within l.vertices l.prev l.end))
+    × ((scan_from l.size.vertices l.size.longest l.prev l.i (drop l.i l.index) ≡ extent_of l.size.vertices l.size.longest l.index) × (Seen l.size.longest l.seen × Within l.size.vertices l.prev l.end))
 
 abbrev pub decreases-loop-at : goal.decreases-loop-at
 decreases-loop-at l = length l.index - l.i

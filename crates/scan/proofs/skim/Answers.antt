@@ -18,10 +18,10 @@ returns-then-hubs-x c =
 
 pub loop-i-preserved : goal.loop-i-preserved
 loop-i-preserved c =
-    skim_more c.loop-i.invariant c.loop-i-test.true c.if-x-last.false c.if-end-x.false c.if-hubs-x.false (rw c.slot-at.ensures at c.if-seen-at.true)
+    skim_more c.loop-i.invariant c.loop-i-test.true c.if-x-last.false c.if-end-x.false c.if-hubs-x.false (rw c.slot-at.ensures at c.if-seen-at.false)
 
-pub returns-else-seen-at : goal.returns-else-seen-at
-returns-else-seen-at c =
+pub returns-then-seen-at : goal.returns-then-seen-at
+returns-then-seen-at c =
     skim_untested c.loop-i.invariant c.loop-i-test.true c.if-x-last.false
 
 pub returns : goal.returns
