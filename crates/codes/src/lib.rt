@@ -16,8 +16,7 @@ fn are_labels(longest: u32, code: u64) -> bool
 {
     let mut rest = code;
     let mut length = 0;
-    let mut left = CODE_DIGITS;
-    while 0 < left {
+    for _digit in 0..CODE_DIGITS {
         // 1 if digits are left, else 0, without a branch: codes of all lengths are mixed
         let some = (rest + (HUB_UNIT - 1)) / HUB_UNIT;
         if MOST_LABEL as u64 <= (rest - some) % DIGIT_UNIT {
@@ -25,12 +24,8 @@ fn are_labels(longest: u32, code: u64) -> bool
         }
         rest = rest / DIGIT_UNIT;
         length += some;
-        left -= 1;
     }
-    if length < 1 {
-        return false;
-    }
-    length <= longest as u64
+    1 <= length && length <= u64::from(longest)
 }
 
 // Whether the last d digits of a code, written twice or more, give it. They count up to `unit`.
@@ -40,13 +35,11 @@ fn repeats_by(code: u64, d: usize, unit: u64) -> bool
 {
     let last = code % unit;
     let mut word = last;
-    let mut length = d + d;
-    while length <= CODE_DIGITS {
+    for _again in 1..CODE_DIGITS / d {
         word = word * unit + last;
         if word == code {
             return true;
         }
-        length += d;
     }
     false
 }
@@ -56,14 +49,12 @@ fn repeats(code: u64) -> bool
     requires { Spelled code }
     ensures { result ≡ not (own? (digits code_digits code)) }
 {
-    let mut d = 1;
     let mut unit = DIGIT_UNIT;
-    while d + d <= CODE_DIGITS {
+    for d in 1..=CODE_DIGITS / 2 {
         if repeats_by(code, d, unit) {
             return true;
         }
-        d += 1;
-        unit = unit * DIGIT_UNIT;
+        unit *= DIGIT_UNIT;
     }
     false
 }
@@ -73,8 +64,5 @@ pub fn is_code(longest: u32, code: u64) -> bool
     requires { code < hub_unit }
     ensures { result ≡ code? longest code }
 {
-    if are_labels(longest, code) {
-        return !repeats(code);
-    }
-    false
+    are_labels(longest, code) && !repeats(code)
 }

@@ -17,5 +17,5 @@ repeats-requires c = spelled_by _ c.requires (keyed (goal.at.repeats-requires c)
 pub returns-then-are_labels : goal.returns-then-are_labels
 returns-then-are_labels c = ap not c.repeats.ensures ∙ not-not _ ∙ sym (code_is _ _ true (keyed (goal.at.returns-then-are_labels c).Then-are_labels))
 
-pub returns : goal.returns
-returns c = sym (code_is _ _ false (sym c.are_labels.ensures ∙ c.if-are_labels.false))
+pub returns-else-are_labels : goal.returns-else-are_labels
+returns-else-are_labels c = c.if-are_labels.false ∙ sym (code_is _ _ false (sym c.are_labels.ensures ∙ c.if-are_labels.false))
