@@ -1,21 +1,26 @@
--- Counting the labels of the standing edges, in one table for the even slots and one for the odd: the tables, some edges further.
-use mathlib.Core.Path.{◌≡◌, refl, ap, subst, ◌∙◌}
+-- Counting the labels of the standing edges, in one table for the even slots and one for the odd: the tables, an edge further.
+use mathlib.Core.Path.{◌≡◌, ap, sym, ◌∙◌}
 use mathlib.Core.Logic.{◌⊎◌, inl, inr, ⊎_elim, ◌≢◌}
-use mathlib.Core.List.{List, [], ◌∷◌, map}
-use Prim.Native.Nat.{ℕ, ◌+◌, ◌*◌, ◌≤◌, ◌<◌}
+use mathlib.Core.List.{List, [], ◌∷◌}
+use Prim.Native.Nat.{ℕ, zero, suc, ◌/◌, ◌+◌, ◌-◌, ◌*◌, ◌≤◌, ◌<◌}
 use native.Mathlib.Numerals.{add-one}
+use native.Mathlib.Decide.{dec_lt}
 use native.Mathlib.Omega.{arith}
 use lib.Dec.{eqb}
-use lib.ListN.{length, get_or, set, drop, replicate, length-set, length-replicate, get_or-replicate, drop_of_length-le}
-use lib.Seq.{drop-cons, get_or-set_other}
+use lib.ListN.{length, get_or, set, drop, replicate, length-set, length-map, length-drop, length-replicate, get_or-replicate, drop_of_length-le}
+use lib.Seq.{drop-cons, get_or-take, get_or-drop, get_or-set_other, ext_get_or}
+use Rattle.std.specs.Prelude.{Some, None}
+use Rattle.std.specs.Simd.{first_chunks}
+use Rattle.std.specs.List.{slice_get}
+use Rattle.std.proofs.lemmas.Option.{slice_get_within, get_or_from_slice_get, slice_get-get_or}
 use borrow.Author.Tests.{eq-eqb, ne_eqb}
-use Rattle.std.proofs.lemmas.Bool.{cases_lt}
 use Rattle.model.specs.Limits.{most_edges, most_label}
 use Rattle.model.specs.Lists.{from}
 use Rattle.model.specs.Edges.{label_of, standing, total_of, totals_of}
 use Rattle.model.proofs.Tests.{test_map, test_eq}
+use Rattle.model.proofs.Lists.{length_from_lem}
 use Rattle.model.proofs.Ranks.{one, raised}
-use Rattle.model.proofs.Totals.{totals_as, total_none, total_more, total_most}
+use Rattle.model.proofs.Totals.{total_at, total_none, total_more, total_most}
 use Rattle.memory.proofs.Reading.{standing_within}
 use Rattle.totals.specs.Counts.{labels, both, LabelCounts}
 
@@ -42,17 +47,13 @@ module _ (edges : List ℕ) (i : ℕ) where
   standing_next h n = rw (add-one, drop-cons edges i 0, ne_eqb (get_or edges i 0) 0 n)
 
   -- none stands from a zero on, nor behind the last slot
-  pub standing_zero : i < length edges → get_or edges i 0 ≡ 0 → standing (drop i edges) ≡ []
+  standing_zero : i < length edges → get_or edges i 0 ≡ 0 → standing (drop i edges) ≡ []
   unfolding standing
   standing_zero h e = rw (drop-cons edges i 0, eq-eqb (get_or edges i 0) 0 e)
 
-  pub standing_none : length edges ≤ i → standing (drop i edges) ≡ []
+  standing_none : length edges ≤ i → standing (drop i edges) ≡ []
   unfolding standing
   standing_none h = rw (drop_of_length-le edges h)
-
-  -- so none stands from slot i on if no edge does there
-  pub standing_ended : (i < length edges → get_or edges i 0 ≡ 0) → standing (drop i edges) ≡ []
-  standing_ended f = ⊎_elim (λ h. standing_zero h (f h)) (λ h. standing_none h) (cases_lt i (length edges))
 
 -- ---- an edge more
 
@@ -78,8 +79,9 @@ module _ (counts : List ℕ) (long : length counts ≡ 2 * labels) (k x : ℕ) w
       at
 
 module _ {edges counts : List ℕ} {i : ℕ} (t : Totalled edges counts i) where
-  more : (k : ℕ) → Counted k (get_or edges i 0) → i < length edges → get_or edges i 0 ≢ 0 → Totalled edges (raise counts k) (i + 1)
-  more k at h n =
+  -- the edge at slot i in either table
+  totalled_more : (k : ℕ) → Counted k (get_or edges i 0) → i < length edges → get_or edges i 0 ≢ 0 → Totalled edges (raise counts k) (i + 1)
+  totalled_more k at h n =
       let x = get_or edges i 0 in
       record {
         inside = omega arith;
@@ -93,10 +95,6 @@ module _ {edges counts : List ℕ} {i : ℕ} (t : Totalled edges counts i) where
         );
       }
 
-  -- the edge at slot i in the first table
-  pub first_more : i < length edges → get_or edges i 0 ≢ 0 → Totalled edges (raise counts (label_of (get_or edges i 0))) (i + 1)
-  first_more = more (label_of (get_or edges i 0)) (inl refl)
-
   -- no count is more than the edges there can be
   module _ (few : length edges ≤ most_edges) where
     both_small : (c : ℕ) → c < labels → both counts c ≤ most_edges
@@ -108,16 +106,54 @@ module _ {edges counts : List ℕ} {i : ℕ} (t : Totalled edges counts i) where
     pub second_small : (x : ℕ) → get_or counts (labels + label_of x) 0 ≤ most_edges
     second_small x = omega (arith, both_small (label_of x) (omega arith))
 
-  -- where no edge is left, both tables together have the totals
-  pub totalled_all : standing (drop i edges) ≡ [] → LabelCounts edges counts
+  -- where no edge is left, at a zero or behind the last slot, both tables together have the totals
+  totalled_all : standing (drop i edges) ≡ [] → LabelCounts edges counts
   totalled_all e = record { long = t.long; each = λ c h. omega (arith, t.each c h, ap (λ (s : List ℕ). total_of s c) e, total_none c) }
 
--- and the one behind it in the second
-pub two_more : {edges counts : List ℕ} {i : ℕ} → Totalled edges counts i → i + 1 < length edges → get_or edges i 0 ≢ 0 → get_or edges (i + 1) 0 ≢ 0
-    → Totalled edges (raise (raise counts (label_of (get_or edges i 0))) (labels + label_of (get_or edges (i + 1) 0))) (i + 2)
-two_more {edges} {counts} {i} t h a b =
-    subst (Totalled edges (raise (raise counts (label_of (get_or edges i 0))) (labels + label_of (get_or edges (i + 1) 0)))) (omega arith)
-    (more (first_more t (omega arith) a) (labels + label_of (get_or edges (i + 1) 0)) (inr refl) h b)
+  pub totalled_zero : i < length edges → get_or edges i 0 ≡ 0 → LabelCounts edges counts
+  totalled_zero h e = totalled_all (standing_zero edges i h e)
+
+  pub totalled_end : length edges ≤ i → LabelCounts edges counts
+  totalled_end h = totalled_all (standing_none edges i h)
+
+-- ---- the edges two by two
+
+chunk_at : (n : ℕ) (xs : List ℕ) (j i : ℕ) → j < n → i < 2 → get_or (get_or (first_chunks 2 n xs) j []) i 0 ≡ get_or xs (2 * j + i) 0
+chunk_at zero xs j i h l = absurd (omega arith)
+chunk_at (suc n) xs zero i h l = let place : 2 * 0 + i ≡ i = omega arith in rw place (get_or-take 2 xs i 0 l)
+chunk_at (suc n) xs (suc j) i h l =
+    let place : 2 * suc j + i ≡ 2 + (2 * j + i) = omega arith in
+    rw place (chunk_at n (drop 2 xs) j i (omega arith) l ∙ get_or-drop 2 xs (2 * j + i) 0)
+
+module _ (edges : List ℕ) where
+  -- what pair j has, and what is left behind all pairs
+  pub pair_at : {pairs : List (List ℕ)} → pairs ≡ first_chunks 2 (length edges / 2) edges → (j i : ℕ) → j < length edges / 2 → i < 2
+      → get_or (get_or pairs j []) i 0 ≡ get_or edges (2 * j + i) 0
+  pair_at p j i h l = rw p (chunk_at (length edges / 2) edges j i h l)
+
+  module _ {last : List ℕ} (p : last ≡ drop (length edges / 2 * 2) edges) where
+    long : length last ≡ length edges - length edges / 2 * 2
+    long = ap length p ∙ length-drop (length edges / 2 * 2) edges
+
+    pub last_some : {x : ℕ} → slice_get last 0 ≡ Some x → (2 * (length edges / 2) < length edges) × (x ≡ get_or edges (2 * (length edges / 2)) 0)
+    last_some {x} e =
+        let place : length edges / 2 * 2 + 0 ≡ 2 * (length edges / 2) = omega arith in
+        let inside : 0 < length last = slice_get_within last 0 x e in
+        (omega (arith, long), sym (get_or_from_slice_get last 0 x 0 e) ∙ rw (p, ← place) (get_or-drop (length edges / 2 * 2) edges 0 0))
+
+    pub last_none : slice_get last 0 ≡ None → length edges ≤ 2 * (length edges / 2)
+    last_none e = elim (dec_lt 0 (length last)) [
+      | yes h ↦ absurd (let q = slice_get-get_or last 0 0 h in let z : ◌≡◌ {A = ℕ} 0 1 = cc in omega arith)
+      | no h ↦ omega (arith, long)
+    ]
+
+  module _ {counts : List ℕ} (x : ℕ) where
+    -- the edge at slot i in the first table, or in the second
+    pub first_more : (i : ℕ) → Totalled edges counts i → i < length edges → x ≡ get_or edges i 0 → x ≢ 0 → Totalled edges (raise counts (label_of x)) (i + 1)
+    first_more i t h e n = totalled_more t (label_of x) (inl (ap label_of e)) h (λ z. n (e ∙ z))
+
+    pub second_more : (i : ℕ) → Totalled edges counts i → i < length edges → x ≡ get_or edges i 0 → x ≢ 0 → Totalled edges (raise counts (labels + label_of x)) (i + 1)
+    second_more i t h e n = totalled_more t (labels + label_of x) (inr (ap (λ (z : ℕ). labels + label_of z) e)) h (λ z. n (e ∙ z))
 
 -- ---- the totals
 
@@ -125,5 +161,12 @@ module _ {edges counts : List ℕ} (t : LabelCounts edges counts) where
   pub counts_small : length edges ≤ most_edges → (c : ℕ) → c < labels → both counts c ≤ most_edges
   counts_small few c h = omega (arith, t.each c h, total_most (standing edges) c, standing_within edges)
 
-  pub counts_totals : map (both counts) (from 1 most_label) ≡ totals_of (standing edges)
-  counts_totals = totals_as (standing edges) (λ c low high. t.each c (omega arith))
+  -- the table of totals, label by label
+  pub each_total : {totals : List ℕ} → length totals ≡ most_label → ((k : ℕ) → k < most_label → get_or totals k 0 ≡ both counts (k + 1)) → totals ≡ totals_of (standing edges)
+  unfolding totals_of
+  each_total {totals} n f =
+      let long : length (totals_of (standing edges)) ≡ most_label = length-map (from 1 most_label) (total_of (standing edges)) ∙ length_from_lem 1 most_label in
+      ext_get_or 0 totals (totals_of (standing edges)) (n ∙ sym long) (λ k h.
+      let h : k < most_label = omega arith in
+      let place : k + 1 - 1 ≡ k = omega arith in
+      f k h ∙ t.each (k + 1) (omega arith) ∙ sym (rw place at (total_at (standing edges) (k + 1) (omega arith) (omega arith))))

@@ -1,11 +1,7 @@
--- `totals::count_labels` meets its contract: the edges before slot i are counted, and both tables together have the totals where none is left.
-use Prim.Native.Nat.{◌-◌}
-use lib.ListN.{length}
+-- `totals::count_labels` meets its contract: the edges of the pairs passed are counted, and both tables together have the totals where none is left.
+use Prim.Native.Nat.{◌*◌}
 use Rattle.totals.proofs.Totalling.{Totalled}
 use Rattle.totals.proofs.count_labels.Given as goal
 
-abbrev pub invariant-loop-i : goal.invariant-loop-i
-invariant-loop-i l = Totalled l.edges l.counts l.i
-
-abbrev pub decreases-loop-i : goal.decreases-loop-i
-decreases-loop-i l = length l.edges - l.i
+abbrev pub invariant-loop-x : goal.invariant-loop-x
+invariant-loop-x l = Totalled l.edges l.counts (2 * l.x-index)

@@ -1,41 +1,14 @@
--- `totals::totals` meets its contract: both tables together have the totals.
-use Prim.Native.Nat.{ℕ, ◌≤◌, ◌<◌}
+use Prim.Native.Nat.{◌+◌, ◌<◌}
 use native.Mathlib.Omega.{arith}
-use Rattle.model.specs.Limits.{most_edges}
-use Rattle.model.specs.Lists.{from}
-use Rattle.totals.specs.Counts.{labels, both}
-use Rattle.totals.proofs.Totalling.{counts_small, counts_totals}
+use lib.ListN.{length-set}
+use Rattle.std.proofs.lemmas.List.Edits.{fill_by_more}
+use Rattle.totals.specs.Counts.{both}
+use Rattle.totals.proofs.Totalling.{each_total}
 use Rattle.totals.proofs.totals.Goals as goal
-use Rattle.totals.proofs.totals.Goals.{After-count_labels-counts}
 
--- a label's two counts together are no more than the edges there can be
-fits : (c : After-count_labels-counts) (label : ℕ) → label < labels → both c.count_labels-counts.result label ≤ most_edges
-fits c label h = counts_small c.count_labels-counts.ensures c.requires label h
+pub loop-i-preserved : goal.loop-i-preserved
+loop-i-preserved c =
+    (simp length-set c.loop-i.invariant.0, fill_by_more (λ k. both c.count_labels-counts.result (k + 1)) _ c.loop-i.i 0 (omega arith) c.loop-i.invariant.1)
 
 pub returns : goal.returns
-unfolding from
-returns c = counts_totals c.count_labels-counts.ensures
-
-pub overflow_add-result : goal.overflow_add-result
-overflow_add-result c = omega (arith, fits (goal.at.overflow_add-result c).After-count_labels-counts 1 (omega arith))
-
-pub overflow_add-result-2 : goal.overflow_add-result-2
-overflow_add-result-2 c = omega (arith, fits (goal.at.overflow_add-result-2 c).After-count_labels-counts 2 (omega arith))
-
-pub overflow_add-result-3 : goal.overflow_add-result-3
-overflow_add-result-3 c = omega (arith, fits (goal.at.overflow_add-result-3 c).After-count_labels-counts 3 (omega arith))
-
-pub overflow_add-result-4 : goal.overflow_add-result-4
-overflow_add-result-4 c = omega (arith, fits (goal.at.overflow_add-result-4 c).After-count_labels-counts 4 (omega arith))
-
-pub overflow_add-result-5 : goal.overflow_add-result-5
-overflow_add-result-5 c = omega (arith, fits (goal.at.overflow_add-result-5 c).After-count_labels-counts 5 (omega arith))
-
-pub overflow_add-result-6 : goal.overflow_add-result-6
-overflow_add-result-6 c = omega (arith, fits (goal.at.overflow_add-result-6 c).After-count_labels-counts 6 (omega arith))
-
-pub overflow_add-result-7 : goal.overflow_add-result-7
-overflow_add-result-7 c = omega (arith, fits (goal.at.overflow_add-result-7 c).After-count_labels-counts 7 (omega arith))
-
-pub overflow_add-result-8 : goal.overflow_add-result-8
-overflow_add-result-8 c = omega (arith, fits (goal.at.overflow_add-result-8 c).After-count_labels-counts 8 (omega arith))
+returns c = each_total c.count_labels-counts.ensures c.loop-i.invariant.0 (λ k h. let l : k < c.loop-i.i = omega arith in c.loop-i.invariant.1 k l)
