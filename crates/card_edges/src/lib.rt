@@ -1,32 +1,40 @@
 // The edges that a card's bytes name, three bytes each: from, label, to.
 #![tactic(auto)]
 
-ghost use Rattle.std.specs.Prelude.{◌≡◌, ◌+◌, ◌%◌, ◌<◌, length};
+ghost use Rattle.std.specs.Prelude.{◌≡◌, ◌&&◌, ◌+◌, ◌%◌, ◌<◌, length, get_or};
 ghost use Rattle.model.specs.Limits.{triple_bytes};
-ghost use Rattle.calls.specs.Card.{edge_at, edge_at?, rising_triples?};
+ghost use Rattle.model.specs.Computed.Edges.{label?};
+ghost use Rattle.calls.specs.Checks.{ends?};
+ghost use Rattle.calls.specs.Card.{edge_at, rising_triples?};
 
-use model::{FROM_UNIT, LABEL_UNIT, TRIPLE_BYTES};
+use model::{Edge, FROM_UNIT, LABEL_UNIT, TRIPLE_BYTES};
 
-// Whether the three bytes from `at` on name an edge of a layout with so many vertices. Ends and label are compared as they stand.
-fn is_edge_at(vertices: u32, bytes: &[u8], at: usize) -> bool
+// The three bytes from `at` on as the fields of an edge, whether it is one or not.
+fn fields_at(bytes: &[u8], at: usize) -> Edge
     requires { at + 2 < length bytes.now }
-    ensures { result ≡ edge_at? vertices bytes.now at }
+    ensures { result ≡ record { from = get_or bytes.now at 0; label = get_or bytes.now (at + 1) 0; to = get_or bytes.now (at + 2) 0 } }
 {
-    let from = bytes[at] as u32;
-    let label = bytes[at + 1] as u32;
-    let to = bytes[at + 2] as u32;
-    if checks::are_vertices(vertices, from, to) {
-        return checks::is_label(label);
+    Edge {
+        from: u32::from(bytes[at]),
+        label: u32::from(bytes[at + 1]),
+        to: u32::from(bytes[at + 2]),
     }
-    false
 }
 
-// The number of the edge that they name.
+// Whether they are an edge of a layout with so many vertices. Ends and label are compared as they stand.
+fn is_edge(vertices: u32, edge: Edge) -> bool
+    ensures { result ≡ (ends? vertices edge.from edge.to && label? edge.label) }
+{
+    checks::are_vertices(vertices, edge.from, edge.to) && checks::is_label(edge.label)
+}
+
+// The number of the edge that the three bytes name. (`Edge::number` is for the labels of edges alone.)
 pub fn edge_at(bytes: &[u8], at: usize) -> u32
     requires { at + 2 < length bytes.now }
     ensures { result ≡ edge_at bytes.now at }
 {
-    bytes[at] as u32 * FROM_UNIT + bytes[at + 1] as u32 * LABEL_UNIT + bytes[at + 2] as u32
+    let edge = fields_at(bytes, at);
+    edge.from * FROM_UNIT + edge.label * LABEL_UNIT + edge.to
 }
 
 // Whether the edges named by the bytes are rising edges of a layout with so many vertices.
@@ -34,19 +42,17 @@ pub fn are_rising(vertices: u32, body: &[u8]) -> bool
     requires { length body.now % triple_bytes ≡ 0 }
     ensures { result ≡ rising_triples? vertices 0 body.now }
 {
-    let mut prev: u32 = 0;
-    let mut i = 0;
-    while i < body.len() {
-        if is_edge_at(vertices, body, i) {
-            let x = edge_at(body, i);
-            if x <= prev {
-                return false;
-            }
-            prev = x;
-            i += TRIPLE_BYTES;
-        } else {
+    let mut prev = 0;
+    for i in 0..body.len() / TRIPLE_BYTES {
+        let edge = fields_at(body, TRIPLE_BYTES * i);
+        if !is_edge(vertices, edge) {
             return false;
         }
+        let x = edge.number();
+        if x <= prev {
+            return false;
+        }
+        prev = x;
     }
     true
 }
