@@ -1,2 +1,3 @@
 pub mod Sorting
+pub mod Turning
 pub mod Apart
