@@ -8,11 +8,13 @@ use native.Mathlib.Nat.{le_refl}
 use native.Mathlib.Decide.{dec_lt}
 use lib.ListN.{length, set, length-set}
 use lib.Seq.{get_or-set_same, get_or-set_other}
+use Rattle.std.specs.Prelude.{Option, Some, None, IfNone}
+use Rattle.std.proofs.lemmas.Option.{IfSome_then}
 use Rattle.model.specs.Limits.{least_work}
 use Rattle.rows.specs.Region.{row_numbers, work_rows}
 use Rattle.rows.specs.Rows.{KeepsRows}
 use Rattle.rows.proofs.Rows.{keeps_none, keeps_as, keeps_then}
-use Rattle.staging.specs.Stage.{staged, Different, Adds, Over, Stages}
+use Rattle.staging.specs.Stage.{staged, Different, Adds, Over, HasTaken, AllRows, Stages}
 
 -- ---- in one memory
 
@@ -83,15 +85,6 @@ module _ {w : List ℕ} {k m : ℕ} {P Q : ℕ → Type 0} (a : Adds w k m P) (a
         ];
       }
 
-over_now : {w : List ℕ} {k n : ℕ} {P : ℕ → Type 0} → Adds w k n P → (e : ℕ) → (P e → ⊥) → Over w k n (λ x. P x ⊎ (x ≡ e))
-over_now {P = P} a e new =
-    record {
-      different = different_as (λ x. inl) a.different;
-      extra = e;
-      is = inr refl;
-      fresh = λ s. new (subst P s.is (a.different.only s.i s.low s.high));
-    }
-
 -- ---- in another memory with the same staged numbers
 
 module _ {w w' : List ℕ} {k n : ℕ} {P : ℕ → Type 0} (s : (i : ℕ) → i < n → staged w' i ≡ staged w i) where
@@ -121,79 +114,103 @@ module _ {w w' : List ℕ} {k n : ℕ} {P : ℕ → Type 0} (s : (i : ℕ) → i
 
 -- ---- from memory to memory
 
-pub stages_none : {w : List ℕ} {K P : ℕ → Type 0} {room cnt : ℕ} → cnt ≤ room → ((e : ℕ) → P e → ⊥) → Stages w K P room cnt w cnt
-stages_none h n = record { keeps = keeps_none; old = λ i _. refl; done = λ _. adds_none n; over = λ l. absurd (omega arith) }
+pub stages_none : {w : List ℕ} {K P : ℕ → Type 0} {cnt : ℕ} → HasTaken w cnt → ((e : ℕ) → P e → ⊥) → Stages w K P cnt w (Some cnt)
+stages_none h n = record { keeps = keeps_none; old = λ i _. refl; done = (h, adds_none n); over = tt }
 
 -- the rows behind the last of work memory are the stage
 staged_kept : {w w' : List ℕ} {K : ℕ → Type 0} → KeepsRows w w' K → ((q : ℕ) → work_rows ≤ q → K q) → (i : ℕ) → staged w' i ≡ staged w i
 staged_kept h f i = h.same (least_work + i) (f ((least_work + i) / row_numbers) (omega arith))
 
-pub put_keeps : (w : List ℕ) (k e : ℕ) → KeepsRows w (set w (least_work + k) e) (λ q. q < work_rows)
-put_keeps w k e = record { len = length-set w _ _; same = λ i x. get_or-set_other w (least_work + k) i e 0 (λ q. omega arith) }
+-- ---- one number: it is staged, or every slot is taken
 
-module _ {w w' : List ℕ} {K P : ℕ → Type 0} {room cnt r : ℕ} (s : Stages w K P room cnt w' r) where
-  pub stages_as : {Q : ℕ → Type 0} → ((e : ℕ) → P e ↔ Q e) → Stages w K Q room cnt w' r
-  stages_as f = record { keeps = s.keeps; old = s.old; done = λ h. adds_as f (s.done h); over = λ h. over_as (λ e. (f e).0) (s.over h) }
+module _ (w : List ℕ) (n e : ℕ) where
+  abbrev w' : List ℕ
+  w' = set w (least_work + n) e
 
-  -- more than fit
-  pub stages_over : {Q : ℕ → Type 0} → room < r → ((e : ℕ) → P e → Q e) → Stages w K Q room cnt w' r
-  stages_over l f = record { keeps = s.keeps; old = s.old; done = λ h. absurd (omega arith); over = λ h. over_as f (s.over h) }
-
-  -- the second stretch is begun only if the first fitted
-  pub stages_then : {Q : ℕ → Type 0} {w'' : List ℕ} {r' : ℕ} → r ≤ room → ((e : ℕ) → P e → Q e → ⊥) → Stages w' K Q room r w'' r'
-      → Stages w K (λ e. P e ⊎ Q e) room cnt w'' r'
-  stages_then fits apart t =
-      let a = s.done fits in
+  pub stages_put : least_work + n < length w → Stages w AllRows (λ x. x ≡ e) n w' (Some (n + 1))
+  stages_put l =
       record {
-        keeps = keeps_then s.keeps t.keeps;
-        old = λ i h. t.old i (omega (arith, a.more)) ∙ s.old i h;
-        done = λ h. adds_then (adds_kept t.old a) apart (t.done h);
-        over = λ h. over_then (adds_kept t.old a) apart (t.over h);
+        keeps = record { len = length-set w _ _; same = λ i x. get_or-set_other w (least_work + n) i e 0 (λ q. omega arith) };
+        old = λ i h. get_or-set_other w (least_work + n) (least_work + i) e 0 (λ q. omega arith);
+        done = (omega arith, adds_one (get_or-set_same w (least_work + n) e 0 l));
+        over = tt;
+      }
+
+  pub stages_full : least_work + n ≡ length w → Stages w AllRows (λ x. x ≡ e) n w None
+  stages_full q =
+      record {
+        keeps = keeps_none;
+        old = λ i _. refl;
+        done = tt;
+        over = record {
+          different = record { only = λ i h l. absurd (omega arith); once = λ i j h l k. absurd (omega arith) };
+          extra = e;
+          is = refl;
+          fresh = λ s. omega (arith, s.low, s.high);
+        };
+      }
+
+-- ---- whether they fit or not
+
+IfNone_then : (r : Option ℕ) {P Q : Type 0} → IfNone r P → (P → Q) → IfNone r Q
+IfNone_then None h f = f h
+IfNone_then (Some n) h f = tt
+
+module _ {w w' : List ℕ} {K P : ℕ → Type 0} {cnt : ℕ} {r : Option ℕ} (s : Stages w K P cnt w' r) where
+  pub stages_as : {Q : ℕ → Type 0} → ((e : ℕ) → P e ↔ Q e) → Stages w K Q cnt w' r
+  stages_as f =
+      record {
+        keeps = s.keeps;
+        old = s.old;
+        done = IfSome_then r s.done (λ n d. (d.0, adds_as f d.1));
+        over = IfNone_then r s.over (over_as (λ e. (f e).0));
       }
 
   -- memory changes elsewhere, afterwards and before
   pub stages_kept : {w'' : List ℕ} {L : ℕ → Type 0} → KeepsRows w' w'' L → ((q : ℕ) → K q → L q) → ((q : ℕ) → work_rows ≤ q → L q)
-      → Stages w K P room cnt w'' r
+      → Stages w K P cnt w'' r
   stages_kept h f g =
       let same = staged_kept h g in
       record {
         keeps = keeps_then s.keeps (keeps_as f h);
         old = λ i l. same i ∙ s.old i l;
-        done = λ l. adds_kept (λ i _. same i) (s.done l);
-        over = λ l. over_kept (λ i _. same i) (s.over l);
+        done = IfSome_then r s.done (λ n d. (d.0, adds_kept (λ i _. same i) d.1));
+        over = IfNone_then r s.over (over_kept (λ i _. same i));
       }
 
   pub stages_since : {v : List ℕ} {L : ℕ → Type 0} → KeepsRows v w L → ((q : ℕ) → K q → L q) → ((q : ℕ) → work_rows ≤ q → L q)
-      → Stages v K P room cnt w' r
+      → Stages v K P cnt w' r
   stages_since h f g =
-      record { keeps = keeps_then (keeps_as f h) s.keeps; old = λ i l. s.old i l ∙ staged_kept h g i; done = s.done; over = s.over }
+      record {
+        keeps = keeps_then (keeps_as f h) s.keeps;
+        old = λ i l. s.old i l ∙ staged_kept h g i;
+        done = rw (← h.len) s.done;
+        over = rw (← h.len) s.over;
+      }
 
-  pub stages_within : {L : ℕ → Type 0} → ((q : ℕ) → L q → K q) → Stages w L P room cnt w' r
+  pub stages_within : {L : ℕ → Type 0} → ((q : ℕ) → L q → K q) → Stages w L P cnt w' r
   stages_within f = record { keeps = keeps_as f s.keeps; old = s.old; done = s.done; over = s.over }
 
-  -- one number more: every slot is taken, or it is staged
-  module _ (e : ℕ) (new : P e → ⊥) where
-    pub stages_full : r ≡ room → Stages w K (λ x. P x ⊎ (x ≡ e)) room cnt w' (room + 1)
-    stages_full q =
-        record {
-          keeps = s.keeps;
-          old = s.old;
-          done = λ l. absurd (omega arith);
-          over = λ _. let a = s.done (omega arith) in over_now (rw q at a) e new;
-        }
+-- ---- more than fit
 
-    pub stages_put : r < room → least_work + room ≤ length w' → ((q : ℕ) → K q → q < work_rows)
-        → Stages w K (λ x. P x ⊎ (x ≡ e)) room cnt (set w' (least_work + r) e) (r + 1)
-    stages_put l there f =
-        record {
-          keeps = keeps_then s.keeps (keeps_as f (put_keeps w' r e));
-          old = λ i h. was i (omega (arith, a.more)) ∙ s.old i h;
-          done = λ _. adds_then (adds_kept was a) (λ x p q. new (rw q at p)) (adds_one (get_or-set_same w' (least_work + r) e 0 (omega arith)));
-          over = λ h. absurd (omega arith);
-        }
-      where
-        a : Adds w' cnt r P
-        a = s.done (omega arith)
+pub stages_over : {w w' : List ℕ} {K P Q : ℕ → Type 0} {cnt : ℕ} → Stages w K P cnt w' None → ((e : ℕ) → P e → Q e) → Stages w K Q cnt w' None
+stages_over s f = record { keeps = s.keeps; old = s.old; done = tt; over = over_as f s.over }
 
-        was : (i : ℕ) → i < r → staged (set w' (least_work + r) e) i ≡ staged w' i
-        was i h = get_or-set_other w' (least_work + r) (least_work + i) e 0 (λ q. omega arith)
+-- ---- n numbers are staged
+
+module _ {w w' : List ℕ} {K P : ℕ → Type 0} {cnt n : ℕ} (s : Stages w K P cnt w' (Some n)) where
+  -- as many slots are taken
+  pub stages_taken : HasTaken w' n
+  stages_taken = rw s.keeps.len s.done.0
+
+  -- the second stretch is begun only if the first fitted
+  pub stages_then : {Q : ℕ → Type 0} {w'' : List ℕ} {r : Option ℕ} → ((e : ℕ) → P e → Q e → ⊥) → Stages w' K Q n w'' r
+      → Stages w K (λ e. P e ⊎ Q e) cnt w'' r
+  stages_then {r = r} apart t =
+      let a = s.done.1 in
+      record {
+        keeps = keeps_then s.keeps t.keeps;
+        old = λ i h. t.old i (omega (arith, a.more)) ∙ s.old i h;
+        done = IfSome_then r t.done (λ m d. (rw (← s.keeps.len) d.0, adds_then (adds_kept t.old a) apart d.1));
+        over = IfNone_then r t.over (λ o. over_then (adds_kept t.old a) apart (rw s.keeps.len at o));
+      }

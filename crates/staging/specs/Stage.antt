@@ -1,5 +1,5 @@
 -- Entries staged behind the rows of work memory.
-use Rattle.std.specs.Prelude.{◌≡◌, List, ◌≢◌, ℕ, ◌+◌, ◌≤◌, ◌<◌, length, get_or}
+use Rattle.std.specs.Prelude.{◌≡◌, List, ◌≢◌, ℕ, ◌+◌, ◌-◌, ◌≤◌, ◌<◌, length, get_or, Option, IfSome, IfNone}
 use Rattle.model.specs.Limits.{most_vertices, least_work, hub_unit}
 use Rattle.model.specs.Build.Hubs.{Joined}
 use Rattle.rows.specs.Region.{work_rows, rest_row, picked_row}
@@ -34,14 +34,25 @@ pub record Over (w : List ℕ) (k n : ℕ) (Q : ℕ → Type 0) : Type 0 where
   pub is : Q extra
   pub fresh : StagedAt w k n extra → ⊥
 
--- the numbers of P are staged behind the first cnt: r numbers are staged then, or there are more than room; the rows of K are kept
-pub record Stages (w : List ℕ) (K P : ℕ → Type 0) (room cnt : ℕ) (w' : List ℕ) (r : ℕ) : Type 0 where
+-- work memory has slots behind its rows, cnt of them taken
+abbrev pub HasTaken : List ℕ → ℕ → Type 0
+HasTaken w cnt = least_work + cnt ≤ length w
+
+-- how many slots there are
+abbrev pub room_of : List ℕ → ℕ
+room_of w = length w - least_work
+
+-- the numbers of P are staged behind the first cnt: Some n numbers are staged then, or there are more than slots; the rows of K are kept
+pub record Stages (w : List ℕ) (K P : ℕ → Type 0) (cnt : ℕ) (w' : List ℕ) (r : Option ℕ) : Type 0 where
   pub keeps : KeepsRows w w' K
   pub old : (i : ℕ) → i < cnt → staged w' i ≡ staged w i
-  pub done : r ≤ room → Adds w' cnt r P
-  pub over : room < r → Over w' cnt room P
+  pub done : IfSome r (λ n. HasTaken w n × Adds w' cnt n P)
+  pub over : IfNone r (Over w' cnt (room_of w) P)
 
--- the rows that staging keeps
+-- the rows that staging keeps: all of them, and all but row `picked`
+abbrev pub AllRows : ℕ → Type 0
+AllRows r = r < work_rows
+
 abbrev pub Unpicked : ℕ → Type 0
 Unpicked r = (r < work_rows) × (r ≢ picked_row)
 
@@ -49,21 +60,17 @@ Unpicked r = (r < work_rows) × (r ≢ picked_row)
 pub record Transits (w : List ℕ) : Type 0 where
   pub on : (a b c : ℕ) → StepsTo w a b → StepsTo w b c → StepsTo w a c
 
--- the code fits an entry, and work memory has `room` slots behind its rows, cnt of them taken
-pub record HasRoom (w : List ℕ) (code room cnt : ℕ) : Type 0 where
-  pub code_small : code < hub_unit
-  pub count : cnt ≤ room
-  pub there : least_work + room ≤ length w
-
--- the step rows are closed, and there is room: for all starts, and for start s
-pub record Stageable (w : List ℕ) (code room cnt : ℕ) : Type 0 where
+-- the step rows are closed, the code fits an entry, and cnt slots are taken: for all starts, and for start s
+pub record Stageable (w : List ℕ) (code cnt : ℕ) : Type 0 where
   pub transits : Transits w
-  pub space : HasRoom w code room cnt
+  pub code_small : code < hub_unit
+  pub taken : HasTaken w cnt
 
-pub record VertexStageable (w : List ℕ) (s code room cnt : ℕ) : Type 0 where
+pub record VertexStageable (w : List ℕ) (s code cnt : ℕ) : Type 0 where
   pub vertex : s < most_vertices
   pub transits : Transits w
-  pub space : HasRoom w code room cnt
+  pub code_small : code < hub_unit
+  pub taken : HasTaken w cnt
 
 -- e is the entry for a vertex of row `rest` and one to which it steps, with none earlier than both between the two
 pub record RestEntry (w : List ℕ) (code e : ℕ) : Type 0 where

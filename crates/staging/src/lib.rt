@@ -1,28 +1,38 @@
-// Staging: the entry for a walk, and what it is to stage entries (specs/).
+// Staging: the entry for a walk, and entries put one behind another into the slots of work memory behind its rows (specs/).
 #![tactic(auto)]
 
 ghost use Rattle.std.specs.Prelude.{◌≡◌, ◌<◌};
 ghost use Rattle.model.specs.Limits.{most_vertices, hub_unit};
-ghost use Rattle.model.specs.Entries.{entry_of};
 ghost use Rattle.model.specs.Build.Hubs.{joining};
+ghost use Rattle.staging.specs.Stage.{HasTaken, AllRows, Stages};
 
-use model::{HUB_UNIT, OWNER_UNIT, SIDE_UNIT};
-
-// The number of an entry.
-fn entry(side: u64, owner: usize, hub: usize, code: u64) -> u64
-    requires { (side < 2) × ((owner < most_vertices) × ((hub < most_vertices) × (code < hub_unit))) }
-    ensures { result ≡ entry_of side owner hub code }
-{
-    side * SIDE_UNIT + owner as u64 * OWNER_UNIT + hub as u64 * HUB_UNIT + code
-}
+use model::{Entry, LEAST_WORK};
 
 // The entry for a walk from s to t: the later of the two owns it.
 pub fn joined(s: usize, t: usize, code: u64) -> u64
     requires { (s < most_vertices) × ((t < most_vertices) × (code < hub_unit)) }
     ensures { result ≡ joining code s t }
 {
-    if s < t {
-        return entry(1, t, s, code);
+    let (side, owner, hub) = if s < t { (1, t, s) } else { (0, s, t) };
+    let entry = Entry {
+        side,
+        owner,
+        hub,
+        code,
+    };
+    entry.number()
+}
+
+// Puts an entry behind the first n. Returns how many there are then, or None if every slot is taken.
+#[tactic(auto, using(crate::proofs::Adding::stages_put, crate::proofs::Adding::stages_full))]
+pub fn put(w: &mut [u64], n: usize, entry: u64) -> Option<usize>
+    requires { HasTaken w.old n }
+    ensures { Stages w.old AllRows (λ e. e ≡ entry) n w.new result }
+{
+    let slot = LEAST_WORK + n;
+    if slot == w.len() {
+        return None;
     }
-    entry(0, s, t, code)
+    w[slot] = entry;
+    Some(n + 1)
 }
