@@ -8,17 +8,18 @@ use native.Mathlib.Nat.{lt_of_le_of_lt}
 use native.Mathlib.Decide.{ℕ_discrete, dec_lt}
 use lib.Bits.{bit_and, and_le_l}
 use lib.Count.{count_trailing_zeros}
-use lib.ListN.{length, set, get_or}
-use Rattle.model.specs.Limits.{most_vertices, least_work, hub_unit}
+use lib.ListN.{get_or}
+use Rattle.std.specs.Prelude.{Option, Some, None}
+use Rattle.model.specs.Limits.{most_vertices, hub_unit}
 use Rattle.model.specs.Build.Hubs.{joining, Direct}
 use Rattle.model.proofs.Joins.{joining_same}
 use Rattle.rows.specs.Region.{row_numbers}
 use Rattle.rows.specs.Rows.{cell, On, StepsTo}
 use Rattle.rows.proofs.Bits.{bit, no_bit, and_iff, bit_below, Lowest, bit_suc, bit_zero, trailing}
 use Rattle.rows.proofs.Rows.{keeps_steps}
-use Rattle.staging.specs.Stage.{Stages}
-use Rattle.single_starts.specs.Single.{AllRows, StepsWithin}
-use Rattle.staging.proofs.Adding.{stages_none, stages_as, stages_over, stages_then, stages_full, stages_put}
+use Rattle.staging.specs.Stage.{HasTaken, AllRows, Stages}
+use Rattle.single_starts.specs.Single.{StepsWithin}
+use Rattle.staging.proofs.Adding.{stages_none, stages_as, stages_over, stages_then}
 use Rattle.single_starts.proofs.Stepping.{direct_as, direct_or, direct_more, direct_new}
 
 -- ---- the lowest bit cleared
@@ -56,11 +57,10 @@ abbrev pub Taken : List ℕ → ℕ → ℕ → ℕ → ℕ → Type 0
 Taken w i x a b = StepsWithin w i a b × (bit x (b % 64) ≡ 1 → ⊥)
 
 -- the bits of x are steps from s, and the entries for the others are staged
-pub record Numbering (w : List ℕ) (s i code room cnt : ℕ) (w' : List ℕ) (n x : ℕ) : Type 0 where
+pub record Numbering (w : List ℕ) (s i code cnt : ℕ) (w' : List ℕ) (n x : ℕ) : Type 0 where
   pub wide : x < 2 ^ 64
-  pub fits : n ≤ room
   pub left : (k : ℕ) → bit x k ≡ 1 → On w s (i * 64 + k)
-  pub stages : Stages w AllRows (Direct (Taken w i x) code s) room cnt w' n
+  pub stages : Stages w AllRows (Direct (Taken w i x) code s) cnt w' (Some n)
 
 module _ (w : List ℕ) (s i : ℕ) where
   -- the bits of number i
@@ -68,12 +68,11 @@ module _ (w : List ℕ) (s i : ℕ) where
   unfolding cell
   number_bit b e = rw e refl
 
-  pub numbering_none : {code room cnt : ℕ} → cnt ≤ room → get_or w (s * row_numbers + i) 0 < 2 ^ 64
-      → Numbering w s i code room cnt w cnt (get_or w (s * row_numbers + i) 0)
+  pub numbering_none : {code cnt : ℕ} → HasTaken w cnt → get_or w (s * row_numbers + i) 0 < 2 ^ 64
+      → Numbering w s i code cnt w cnt (get_or w (s * row_numbers + i) 0)
   numbering_none c h =
       record {
         wide = h;
-        fits = c;
         left = λ k b.
             let l = bit_below 64 (get_or w (s * row_numbers + i) 0) k h b in
             let q : (i * 64 + k) % 64 ≡ k = omega arith in
@@ -81,7 +80,7 @@ module _ (w : List ℕ) (s i : ℕ) where
         stages = stages_none c (λ e d. let r = d.related in r.1 (sym (number_bit d.end r.0.1) ∙ r.0.0.on));
       }
 
-module _ {w w' : List ℕ} {s i code room cnt n x : ℕ} (a : Numbering w s i code room cnt w' n x) where
+module _ {w w' : List ℕ} {s i code cnt n x : ℕ} (a : Numbering w s i code cnt w' n x) where
   module _ (hs : s < most_vertices) (hi : i < row_numbers) (hc : code < hub_unit) (more : x ≡ 0 → ⊥) where
     abbrev z : ℕ
     z = count_trailing_zeros 64 x
@@ -102,11 +101,11 @@ module _ {w w' : List ℕ} {s i code room cnt n x : ℕ} (a : Numbering w s i co
     step = (record { from = hs; to = omega (arith, numbering_low); on = a.left z first.here }, omega (arith, numbering_low))
 
     module _ {e : ℕ} (is : e ≡ joining code s u) where
-      new : Direct (Taken w i x) code s e → ⊥
-      new d =
+      new : (y : ℕ) → Direct (Taken w i x) code s y → y ≡ e → ⊥
+      new y d q =
           direct_new u hc hs step.0.to (λ t r. r.0.0.to)
           (λ r. r.1 (ap (bit x) low ∙ first.here))
-          (rw is at d)
+          (rw (q ∙ is) at d)
 
       one_more : (b : ℕ) → (Taken w i x s b ⊎ (b ≡ u)) ↔ Taken w i (cleared x) s b
       one_more b = (
@@ -122,25 +121,26 @@ module _ {w w' : List ℕ} {s i code room cnt n x : ℕ} (a : Numbering w s i co
         ],
       )
 
-      -- every slot is taken, and there is one entry more
-      pub numbering_full : n ≡ room → Stages w AllRows (Direct (StepsWithin w i) code s) room cnt w' (room + 1)
-      numbering_full q =
-          stages_over (stages_full a.stages e new q) (omega arith)
-          (λ f. ⊎_elim (direct_as (λ v r. r.0)) (λ p. record { end = u; related = step; is = p ∙ is }))
+      -- its entry comes behind
+      numbering_then : {w'' : List ℕ} {r : Option ℕ} → Stages w' AllRows (λ y. y ≡ e) n w'' r
+          → Stages w AllRows (Direct (Taken w i (cleared x)) code s) cnt w'' r
+      numbering_then t = stages_as (stages_then a.stages new t) (λ f. rw is (direct_more u one_more))
 
-      -- it is staged
-      pub numbering_more : n < room → least_work + room ≤ length w'
-          → Numbering w s i code room cnt (set w' (least_work + n) e) (n + 1) (cleared x)
-      numbering_more f there =
+      pub numbering_full : {w'' : List ℕ} → Stages w' AllRows (λ y. y ≡ e) n w'' None
+          → Stages w AllRows (Direct (StepsWithin w i) code s) cnt w'' None
+      numbering_full t = stages_over (numbering_then t) (λ f. direct_as (λ v r. r.0))
+
+      pub numbering_more : {w'' : List ℕ} {m : ℕ} → Stages w' AllRows (λ y. y ≡ e) n w'' (Some m)
+          → Numbering w s i code cnt w'' m (cleared x)
+      numbering_more t =
           record {
             wide = lt_of_le_of_lt (and_le_l x (x - 1)) a.wide;
-            fits = omega arith;
             left = λ k b. a.left k ((cleared_iff x z k first).0 b).0;
-            stages = stages_as (stages_put a.stages e new f there (λ q h. h)) (λ f. rw is (direct_more u one_more));
+            stages = numbering_then t;
           }
 
   -- no bit is left
-  pub numbering_all : x ≡ 0 → Stages w AllRows (Direct (StepsWithin w i) code s) room cnt w' n
+  pub numbering_all : x ≡ 0 → Stages w AllRows (Direct (StepsWithin w i) code s) cnt w' (Some n)
   numbering_all q = stages_as a.stages (λ e. (direct_as (λ v r. r.0), direct_as (λ v r. (r, λ b. no_bit (v % 64) (rw q at b)))))
 
 -- ---- number by number
@@ -150,18 +150,17 @@ abbrev pub StepsBelow : List ℕ → ℕ → ℕ → ℕ → Type 0
 StepsBelow w i a b = StepsTo w a b × (b / 64 < i)
 
 -- the entries for such steps from s are staged
-pub record RowStaged (w : List ℕ) (s code room cnt : ℕ) (w' : List ℕ) (n i : ℕ) : Type 0 where
-  pub fits : n ≤ room
-  pub stages : Stages w AllRows (Direct (StepsBelow w i) code s) room cnt w' n
+abbrev pub RowStaged : (w : List ℕ) (s code cnt : ℕ) (w' : List ℕ) (r : Option ℕ) (i : ℕ) → Type 0
+RowStaged w s code cnt w' r i = Stages w AllRows (Direct (StepsBelow w i) code s) cnt w' r
 
-pub row_none : {w : List ℕ} {s code room cnt : ℕ} → cnt ≤ room → RowStaged w s code room cnt w cnt 0
-row_none c = record { fits = c; stages = stages_none c (λ e d. omega (arith, d.related.1)) }
+pub row_none : {w : List ℕ} {s code cnt : ℕ} → HasTaken w cnt → RowStaged w s code cnt w (Some cnt) 0
+row_none c = stages_none c (λ e d. omega (arith, d.related.1))
 
-module _ {w w' : List ℕ} {s code room cnt n i : ℕ} (a : RowStaged w s code room cnt w' n i) where
-  module _ (hs : s < most_vertices) (hc : code < hub_unit) {w'' : List ℕ} {r : ℕ}
-      (t : Stages w' AllRows (Direct (StepsWithin w' i) code s) room n w'' r) where
+module _ {w w' : List ℕ} {s code cnt n i : ℕ} (a : RowStaged w s code cnt w' (Some n) i) where
+  module _ (hs : s < most_vertices) (hc : code < hub_unit) {w'' : List ℕ} {r : Option ℕ}
+      (t : Stages w' AllRows (Direct (StepsWithin w' i) code s) n w'' r) where
     same : (b : ℕ) → StepsTo w' s b ↔ StepsTo w s b
-    same = keeps_steps a.stages.keeps (λ q h. omega arith) s
+    same = keeps_steps a.keeps (λ q h. omega arith) s
 
     here : (e : ℕ) → Direct (StepsWithin w' i) code s e ↔ Direct (StepsWithin w i) code s e
     here e = (direct_as (λ b q. ((same b).0 q.0, q.1)), direct_as (λ b q. ((same b).1 q.0, q.1)))
@@ -172,19 +171,18 @@ module _ {w w' : List ℕ} {s code room cnt n i : ℕ} (a : RowStaged w s code r
         omega (arith, p.related.1, q.related.1)
 
     -- the entries of number i come behind
-    pub row_then : Stages w AllRows (Direct (StepsBelow w (i + 1)) code s) room cnt w'' r
+    pub row_then : RowStaged w s code cnt w'' r (i + 1)
     row_then =
-        stages_as (stages_then a.stages a.fits apart (stages_as t here)) (λ e. direct_or (λ b. (
+        stages_as (stages_then a apart (stages_as t here)) (λ e. direct_or (λ b. (
           ⊎_elim (λ q. (q.0, omega (arith, q.1))) (λ q. (q.0, omega (arith, q.1))),
           λ q. elim (dec_lt (b / 64) i) [ yes h ↦ inl (q.0, h) | no h ↦ inr (q.0, omega (arith, q.1)) ],
         )))
 
-    pub row_over : room < r → Stages w AllRows (Direct (StepsTo w) code s) room cnt w'' r
-    row_over l = stages_over row_then l (λ e. direct_as (λ b q. q.0))
-
-    pub row_more : r ≤ room → RowStaged w s code room cnt w'' r (i + 1)
-    row_more l = record { fits = l; stages = row_then }
-
   -- every number is passed
-  pub row_all : row_numbers ≤ i → Stages w AllRows (Direct (StepsTo w) code s) room cnt w' n
-  row_all h = stages_as a.stages (λ e. (direct_as (λ b q. q.0), direct_as (λ b q. (q, omega (arith, q.to)))))
+  pub row_all : row_numbers ≤ i → Stages w AllRows (Direct (StepsTo w) code s) cnt w' (Some n)
+  row_all h = stages_as a (λ e. (direct_as (λ b q. q.0), direct_as (λ b q. (q, omega (arith, q.to)))))
+
+-- more than fit, with the numbers that were not tried yet too
+pub row_over : {w w' : List ℕ} {s code cnt i : ℕ} → RowStaged w s code cnt w' None i
+    → Stages w AllRows (Direct (StepsTo w) code s) cnt w' None
+row_over a = stages_over a (λ e. direct_as (λ b q. q.0))

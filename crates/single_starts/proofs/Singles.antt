@@ -6,6 +6,7 @@ use Prim.Native.Nat.{ℕ, ◌+◌, ◌≤◌, ◌<◌}
 use native.Mathlib.Omega.{arith}
 use native.Mathlib.Decide.{ℕ_discrete}
 use lib.ListN.{length, get_or}
+use Rattle.std.specs.Prelude.{true, false, Option, Some, None, is_some}
 use Rattle.model.specs.Limits.{most_vertices, hub_unit}
 use Rattle.model.specs.Lists.{◌∈◌}
 use Rattle.model.specs.Edges.{from_of}
@@ -15,8 +16,8 @@ use Rattle.model.proofs.Joins.{joining_same}
 use Rattle.rows.specs.Region.{open_row, rest_row}
 use Rattle.rows.specs.Rows.{cell, On, KeepsRows, Becomes, FirstInBoth, StepsTo, Domain}
 use Rattle.rows.proofs.Rows.{on_dec, keeps_as, keeps_back, keeps_cell, keeps_steps, keeps_domain}
-use Rattle.staging.specs.Stage.{Stages}
-use Rattle.single_starts.specs.Single.{Single, LastStep, AllRows, Unsplit, SinglesStageable, StagesSingles}
+use Rattle.staging.specs.Stage.{HasTaken, AllRows, Stages}
+use Rattle.single_starts.specs.Single.{Single, LastStep, Unsplit, SinglesStageable, StagesSingles}
 use Rattle.staging.proofs.Adding.{stages_none, stages_as, stages_over, stages_then, stages_kept, stages_since, stages_within}
 use Rattle.single_starts.proofs.Stepping.{direct_as}
 
@@ -45,18 +46,16 @@ pub record GoneStep (w : List ℕ) (d code : ℕ) (w' : List ℕ) (e : ℕ) : Ty
   pub gone : On w' rest_row last.start → ⊥
 
 -- their entries are staged; the starts of the first i edges are among them
-pub record Splitting (edges w : List ℕ) (d code room cnt : ℕ) (w' : List ℕ) (n i : ℕ) : Type 0 where
-  pub fits : n ≤ room
+pub record Splitting (edges w : List ℕ) (d code cnt : ℕ) (w' : List ℕ) (n i : ℕ) : Type 0 where
   pub within : (v : ℕ) → v < most_vertices → On w' rest_row v → On w d v
   pub ends : (v : ℕ) → v < most_vertices → On w d v → (On w' rest_row v → ⊥) → Single w d v
   pub seen : (k : ℕ) → k < i → Single w d (from_of (get_or edges k 0)) → On w' rest_row (from_of (get_or edges k 0)) → ⊥
-  pub stages : Stages w Unsplit (GoneStep w d code w') room cnt w' n
+  pub stages : Stages w Unsplit (GoneStep w d code w') cnt w' (Some n)
 
-module _ {edges w : List ℕ} {d code room cnt : ℕ} (c : Domain w d) where
-  pub splitting_none : {w₀ : List ℕ} → Becomes w₀ w rest_row (On w₀ d) → cnt ≤ room → Splitting edges w d code room cnt w cnt 0
+module _ {edges w : List ℕ} {d code cnt : ℕ} (c : Domain w d) where
+  pub splitting_none : {w₀ : List ℕ} → Becomes w₀ w rest_row (On w₀ d) → HasTaken w cnt → Splitting edges w d code cnt w cnt 0
   splitting_none {w₀} b h =
       record {
-        fits = h;
         within = λ v l o. same v l ∙ b.row.only v l o;
         ends = λ v l o n. absurd (n (there v l o));
         seen = λ k l. absurd (omega arith);
@@ -69,13 +68,12 @@ module _ {edges w : List ℕ} {d code room cnt : ℕ} (c : Domain w d) where
       there : (v : ℕ) → v < most_vertices → On w d v → On w rest_row v
       there v l o = b.row.all v l (sym (same v l) ∙ o)
 
-  module _ {w' : List ℕ} {n i : ℕ} (a : Splitting edges w d code room cnt w' n i) where
+  module _ {w' : List ℕ} {n i : ℕ} (a : Splitting edges w d code cnt w' n i) where
     -- the start of edge i stays as it is
     pub splitting_pass : (Single w d (from_of (get_or edges i 0)) → On w' rest_row (from_of (get_or edges i 0)) → ⊥)
-        → Splitting edges w d code room cnt w' n (i + 1)
+        → Splitting edges w d code cnt w' n (i + 1)
     splitting_pass f =
         record {
-          fits = a.fits;
           within = a.within;
           ends = a.ends;
           seen = λ k l. elim (ℕ_discrete k i) [
@@ -89,25 +87,20 @@ module _ {edges w : List ℕ} {d code room cnt : ℕ} (c : Domain w d) where
       kept : KeepsRows w w' Unsplit
       kept = a.stages.keeps
 
-      module _ {v : ℕ} (x : FirstInBoth w' s d v) where
-        pub splitting_goes_on : (v ≡ most_vertices → ⊥) → Single w d s → ⊥
-        splitting_goes_on n e =
-            let l : v < most_vertices = omega (arith, x.high) in
-            e.none v
-            ((steps_kept kept s v).0 (record { from = small; to = l; on = (x.here l).0 }))
-            (sym (keeps_cell kept d (child c.most) v l) ∙ (x.here l).1)
+      pub splitting_goes_on : (v : Option ℕ) → FirstInBoth w' s d v → is_some v ≡ true → Single w d s → ⊥
+      splitting_goes_on None x n e = cc
+      splitting_goes_on (Some v) x n e =
+          e.none v
+          ((steps_kept kept s v).0 (record { from = small; to = x.high; on = x.here.0 }))
+          (sym (keeps_cell kept d (child c.most) v x.high) ∙ x.here.1)
 
-        pub splitting_ends : v ≡ most_vertices → Single w d s
-        splitting_ends q =
-            record {
-              none = λ t i o. x.gap t (omega (arith, i.to))
-                  ((steps_kept kept s t).1 i).on
-                  (keeps_cell kept d (child c.most) t i.to ∙ o);
-            }
+      pub splitting_ends : (v : Option ℕ) → FirstInBoth w' s d v → is_some v ≡ false → Single w d s
+      splitting_ends None x q =
+          record { none = λ t i o. x.gap t i.to ((steps_kept kept s t).1 i).on (keeps_cell kept d (child c.most) t i.to ∙ o) }
+      splitting_ends (Some v) x q = cc
 
       -- no second step follows s, and its entries are not staged yet
-      module _ (on : On w' rest_row s) (end : Single w d s) (hc : code < hub_unit) {w'' : List ℕ} {r : ℕ}
-          (t : Stages w' AllRows (Direct (StepsTo w') code s) room n w'' r) where
+      module _ (on : On w' rest_row s) (end : Single w d s) (hc : code < hub_unit) where
         steps : (e : ℕ) → Direct (StepsTo w') code s e ↔ Direct (StepsTo w) code s e
         steps e = (direct_as (λ u. (steps_kept kept s u).0), direct_as (λ u. (steps_kept kept s u).1))
 
@@ -119,24 +112,26 @@ module _ {edges w : List ℕ} {d code room cnt : ℕ} (c : Domain w d) where
             let (q, _) = joining_same code m.last.start l.end s i.end hc r.from r.to small i.related.to (sym l.is ∙ i.is) in
             m.gone (rw q on)
 
-        both : Stages w Unsplit (λ e. GoneStep w d code w' e ⊎ Direct (StepsTo w) code s e) room cnt w'' r
-        both = stages_then a.stages a.fits apart (stages_within (stages_as t steps) (λ q u. u.0))
+        both : {w'' : List ℕ} {r : Option ℕ} → Stages w' AllRows (Direct (StepsTo w') code s) n w'' r
+            → Stages w Unsplit (λ e. GoneStep w d code w' e ⊎ Direct (StepsTo w) code s e) cnt w'' r
+        both t = stages_then a.stages apart (stages_within (stages_as t steps) (λ q u. u.0))
 
-        pub splitting_both : room < r → Stages w Unsplit (LastStep w d code) room cnt w'' r
-        splitting_both l = stages_over both l (λ e. ⊎_elim (λ m. m.last) (λ i. record { start = s; single = end; direct = i }))
+        pub splitting_both : {w'' : List ℕ} → Stages w' AllRows (Direct (StepsTo w') code s) n w'' None
+            → Stages w Unsplit (LastStep w d code) cnt w'' None
+        splitting_both t = stages_over (both t) (λ e. ⊎_elim (λ m. m.last) (λ i. record { start = s; single = end; direct = i }))
 
-        pub splitting_take : ((x : ℕ) → x ∈ edges → from_of x < most_vertices) → i < length edges → s ≡ from_of (get_or edges i 0) → r ≤ room
-            → {v : List ℕ} → Becomes w'' v rest_row (λ k. On w'' rest_row k × (k ≡ s → ⊥)) → Splitting edges w d code room cnt v r (i + 1)
-        splitting_take starts inside is f {v} b =
+        pub splitting_take : ((x : ℕ) → x ∈ edges → from_of x < most_vertices) → i < length edges → s ≡ from_of (get_or edges i 0)
+            → {w'' v : List ℕ} {m : ℕ} → Stages w' AllRows (Direct (StepsTo w') code s) n w'' (Some m)
+            → Becomes w'' v rest_row (λ k. On w'' rest_row k × (k ≡ s → ⊥)) → Splitting edges w d code cnt v m (i + 1)
+        splitting_take starts inside is {w''} {v} t b =
             record {
-              fits = f;
               within = λ u l o. a.within u l (only u l o).0;
               ends = λ u l o n. elim (ℕ_discrete u s) [ yes q ↦ rw q end | no q ↦ a.ends u l o (λ z. n (all u l z q)) ];
               seen = λ k l e o. elim (ℕ_discrete k i) [
                 | yes q ↦ (only (from_of (get_or edges k 0)) (low k l) o).1 (ap (λ (j : ℕ). from_of (get_or edges j 0)) q ∙ sym is)
                 | no q ↦ a.seen k (omega arith) e (only (from_of (get_or edges k 0)) (low k l) o).0
               ];
-              stages = stages_as (stages_kept both b.keeps (λ q u. u.1) (λ q h e. omega arith)) more;
+              stages = stages_as (stages_kept (both t) b.keeps (λ q u. u.1) (λ q h e. omega arith)) more;
             }
           where
             only : (u : ℕ) → u < most_vertices → On v rest_row u → On w' rest_row u × (u ≡ s → ⊥)
@@ -172,20 +167,17 @@ module _ {w₀ w : List ℕ} {d : ℕ} (m : d < open_row) (b : Becomes w₀ w re
   domain_copied c = keeps_domain since (child m) (λ a t s. c.starts a t ((steps_kept since a t).0 s)) c
 
   -- more than fit, and all
-  pub splitting_over : {code room cnt r : ℕ} {w' : List ℕ} → room < r → Stages w Unsplit (LastStep w d code) room cnt w' r
-      → StagesSingles w₀ d code room cnt w' r
-  splitting_over l t =
-      record {
-        stages = stages_since (stages_over t l (λ e. (lasts e).0)) b.keeps (λ q u. u.1) (λ q h e. omega arith);
-        rest = λ h. absurd (omega arith);
-      }
+  pub splitting_over : {code cnt : ℕ} {w' : List ℕ} → Stages w Unsplit (LastStep w d code) cnt w' None
+      → StagesSingles w₀ d code cnt w' None
+  splitting_over t =
+      record { stages = stages_since (stages_over t (λ e. (lasts e).0)) b.keeps (λ q u. u.1) (λ q h e. omega arith); rest = tt }
 
-  pub splitting_all : {edges : List ℕ} {code room cnt n i : ℕ} {w' : List ℕ} → SinglesStageable edges w₀ d code room cnt → length edges ≤ i
-      → Splitting edges w d code room cnt w' n i → StagesSingles w₀ d code room cnt w' n
+  pub splitting_all : {edges : List ℕ} {code cnt n i : ℕ} {w' : List ℕ} → SinglesStageable edges w₀ d code cnt → length edges ≤ i
+      → Splitting edges w d code cnt w' n i → StagesSingles w₀ d code cnt w' (Some n)
   splitting_all {edges} {code = code} {w' = w'} p h a =
       record {
         stages = stages_since (stages_as a.stages whole) b.keeps (λ q u. u.1) (λ q h e. omega arith);
-        rest = λ _. record {
+        rest = record {
           only = λ v l o. let z = a.within v l o in (sym (same v l) ∙ z, λ e. none v l z (single_kept (keeps_back since) m e) o);
           all = λ v l r. elim (on_dec w' rest_row v) [
             | yes o ↦ o

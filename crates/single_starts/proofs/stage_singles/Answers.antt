@@ -1,115 +1,101 @@
-use mathlib.Core.Path.{◌≡◌, refl, sym, ◌∙◌}
+use mathlib.Core.Bool.{not}
+use mathlib.Core.Path.{◌≡◌, sym, ap, ◌∙◌}
 use Prim.Native.Nat.{◌<◌}
 use native.Mathlib.Omega.{arith}
 use lib.ListN.{length, get_or}
 use Rattle.model.specs.Limits.{most_vertices}
+use Rattle.model.specs.declared.Edge.{Edge}
 use Rattle.model.specs.Edges.{from_of}
 use Rattle.model.proofs.Lists.{get_d_in}
 use Rattle.rows.specs.Rows.{Domain}
+use Rattle.staging.proofs.Adding.{stages_taken}
 use Rattle.single_starts.proofs.Singles.{splitting_none, splitting_pass, splitting_goes_on, splitting_ends, splitting_both, splitting_take, splitting_over, splitting_all, domain_copied}
 use Rattle.single_starts.proofs.stage_singles.Goals as goal
-use Rattle.single_starts.proofs.stage_singles.Goals.{At-loop-i, In-loop-i, then-bit-eq1+then-common-eq-MOST_VERTICES+else-room-n, then-bit-eq1+else-common-eq-MOST_VERTICES, else-bit-eq1}
+use Rattle.single_starts.proofs.stage_singles.Goals.{At-loop-x, After-from-s, then-bit-eq1+then-is_none+in_ok-n, else-bit-eq1, else-bit-eq1-via-then-bit-eq1+else-is_none, else-bit-eq1-via-else-bit-eq1}
 
 -- the length is kept
-len : (c : At-loop-i) → length c.loop-i.w ≡ length c.args.w.now
-len c = c.loop-i.invariant.stages.keeps.len ∙ c.copy.ensures.keeps.len
+len : (c : At-loop-x) → length c.loop-x.w ≡ length c.args.w.now
+len c = c.loop-x.invariant.stages.keeps.len ∙ c.copy.ensures.keeps.len
 
-domain : (c : At-loop-i) → Domain c.copy.new.w c.args.domain
+domain : (c : At-loop-x) → Domain c.copy.new.w c.args.domain
 domain c = let d = c.requires.domain in domain_copied d.most c.copy.ensures d
 
 -- the edge at hand starts at a vertex
-small : (c : In-loop-i) → from_of (get_or c.args.edges.now c.loop-i.i 0) < most_vertices
-small c = let e = c.args.edges.now in c.requires.small _ (get_d_in e c.loop-i.i c.loop-i-test.true)
+start : (c : After-from-s) → c.from-s.result.from ≡ from_of (get_or c.args.edges.now c.loop-x.x-index 0)
+start c = ap (λ (e : Edge). e.from) c.from-s.ensures
 
-pub copy-requires : goal.copy-requires
-copy-requires c =
-    let d = c.requires.domain in
-    (record { row = omega arith; long = d.long }, record { row = omega (arith, d.most); long = d.long })
+small : (c : After-from-s) → c.from-s.result.from < most_vertices
+small c = rw (start c) (c.requires.small _ (get_d_in c.args.edges.now c.loop-x.x-index c.loop-x-test.true))
 
-pub loop-i-init : goal.loop-i-init
-loop-i-init c =
+pub loop-x-init : goal.loop-x-init
+loop-x-init c =
     let pre = c.requires in
     let d = pre.domain in
-    splitting_none (domain_copied d.most c.copy.ensures d) c.copy.ensures pre.space.count
-
-pub offset_bounds-edges-i : goal.offset_bounds-edges-i
-offset_bounds-edges-i c = omega (arith, c.loop-i-test.true)
-
-pub bounds-edges-i : goal.bounds-edges-i
-bounds-edges-i c = c.loop-i-test.true
-
-pub overflow_cast-s : goal.overflow_cast-s
-overflow_cast-s c = omega (arith, small (goal.at.overflow_cast-s c).In-loop-i)
+    splitting_none (domain_copied d.most c.copy.ensures d) c.copy.ensures (omega (arith, c.copy.ensures.keeps.len, pre.taken))
 
 pub bit-requires : goal.bit-requires
 bit-requires c =
-    let l = len (goal.at.bit-requires c).At-loop-i in
-    (record { row = omega arith; long = omega (arith, c.requires.domain.long) }, small (goal.at.bit-requires c).In-loop-i)
+    let l = len (goal.at.bit-requires c).At-loop-x in
+    (record { row = omega arith; long = omega (arith, c.requires.domain.long) }, small (goal.at.bit-requires c).After-from-s)
 
 pub common-requires : goal.common-requires
 common-requires c =
     let d = c.requires.domain in
-    let l = len (goal.at.common-requires c).At-loop-i in (
-      record { row = omega (arith, small (goal.at.common-requires c).In-loop-i); long = omega (arith, d.long) },
-      record { row = omega (arith, d.most); long = omega (arith, d.long) },
-    )
+    let l = len (goal.at.common-requires c).At-loop-x in
+    let s = small (goal.at.common-requires c).After-from-s in
+    (record { row = omega (arith, s); long = omega (arith, d.long) }, record { row = omega (arith, d.most); long = omega (arith, d.long) })
 
-pub stage_steps-n-requires : goal.stage_steps-n-requires
-stage_steps-n-requires c =
-    let pre = c.requires in
-    let l = len (goal.at.stage_steps-n-requires c).At-loop-i in
+pub stage_steps-requires : goal.stage_steps-requires
+stage_steps-requires c =
     record {
-      vertex = small (goal.at.stage_steps-n-requires c).In-loop-i;
-      space = record { code_small = pre.space.code_small; count = c.loop-i.invariant.fits; there = omega (arith, pre.space.there) };
+      vertex = small (goal.at.stage_steps-requires c).After-from-s;
+      code_small = c.requires.code_small;
+      taken = stages_taken c.loop-x.invariant.stages;
     }
-
-pub shape_of-w-then-room-n : goal.shape_of-w-then-room-n
-shape_of-w-then-room-n c =
-    c.stage_steps-n.ensures.keeps.len ∙ len (goal.at.shape_of-w-then-room-n c).At-loop-i
-
-pub returns-then-room-n : goal.returns-then-room-n
-returns-then-room-n c =
-    let pre = c.requires in
-    let d = domain (goal.at.returns-then-room-n c).At-loop-i in
-    let end = splitting_ends d c.loop-i.invariant (small (goal.at.returns-then-room-n c).In-loop-i) c.common.ensures c.if-common-eq-MOST_VERTICES.true in
-    splitting_over pre.domain.most c.copy.ensures c.if-room-n.true
-    (splitting_both d c.loop-i.invariant (small (goal.at.returns-then-room-n c).In-loop-i) (sym c.bit.ensures ∙ omega (arith, c.if-bit-eq1.true)) end pre.space.code_small c.stage_steps-n.ensures c.if-room-n.true)
 
 pub unmark-requires : goal.unmark-requires
 unmark-requires c =
-    let l = c.stage_steps-n.ensures.keeps.len ∙ len (goal.at.unmark-requires c).At-loop-i in
-    (record { row = omega arith; long = omega (arith, c.requires.domain.long) }, small (goal.at.unmark-requires c).In-loop-i)
+    let l = c.stage_steps.ensures.keeps.len ∙ len (goal.at.unmark-requires c).At-loop-x in
+    (record { row = omega arith; long = omega (arith, c.requires.domain.long) }, small (goal.at.unmark-requires c).After-from-s)
 
-pub overflow_add-i : goal.overflow_add-i
-overflow_add-i c = omega (arith, c.loop-i-test.true)
+pub returns-in_err-n : goal.returns-in_err-n
+returns-in_err-n c =
+    let pre = c.requires in
+    let inv = c.loop-x.invariant in
+    let d = domain (goal.at.returns-in_err-n c).At-loop-x in
+    let s = small (goal.at.returns-in_err-n c).After-from-s in
+    let end = splitting_ends d inv s _ c.common.ensures (c.is_none.ensures ∙ ap not c.if-is_none.true) in
+    let over = rw c.in_err-n.was at c.stage_steps.ensures in
+    rw c.from_residual.ensures
+    (splitting_over pre.domain.most c.copy.ensures
+    (splitting_both d inv s (sym c.bit.ensures ∙ omega (arith, c.if-bit-eq1.true)) end pre.code_small over))
 
-pub loop-i-smaller : goal.loop-i-smaller
-loop-i-smaller c = omega (arith, c.loop-i-test.true)
-
-pub loop-i-preserved : goal.loop-i-preserved
-loop-i-preserved c =
-    let d = domain (goal.at.loop-i-preserved c).At-loop-i in
-    let l = small (goal.at.loop-i-preserved c).In-loop-i in
-    let inv = c.loop-i.invariant in
+pub loop-x-preserved : goal.loop-x-preserved
+loop-x-preserved c =
+    let d = domain (goal.at.loop-x-preserved c).At-loop-x in
+    let is = start (goal.at.loop-x-preserved c).After-from-s in
+    let s = small (goal.at.loop-x-preserved c).After-from-s in
+    let inv = c.loop-x.invariant in
     let pre = c.requires in
     let b = c.bit.ensures in
     elim c.if-bit-eq1.branch [
-      | then-bit-eq1+then-common-eq-MOST_VERTICES+else-room-n w ↦
-          let end = splitting_ends d inv l w.common.ensures w.if-common-eq-MOST_VERTICES.true in
+      | then-bit-eq1+then-is_none+in_ok-n w ↦
+          let end = splitting_ends d inv s _ w.common.ensures (w.is_none.ensures ∙ ap not w.if-is_none.true) in
+          let fits = rw w.in_ok-n.was at w.stage_steps.ensures in
           rw
           (w.w-is, w.n-is)
-          (splitting_take d inv l (sym b ∙ omega (arith, w.if-bit-eq1.true)) end pre.space.code_small w.stage_steps-n.ensures pre.small c.loop-i-test.true refl w.if-room-n.false w.unmark.ensures)
-      | then-bit-eq1+else-common-eq-MOST_VERTICES w ↦
+          (splitting_take d inv s (sym b ∙ omega (arith, w.if-bit-eq1.true)) end pre.code_small pre.small c.loop-x-test.true is fits w.unmark.ensures)
+      | else-bit-eq1 w ↦
           rw
           (w.w-is, w.n-is)
-          (splitting_pass d inv (λ e _. splitting_goes_on d inv l w.common.ensures w.if-common-eq-MOST_VERTICES.false e))
-      | else-bit-eq1 w ↦ rw (w.w-is, w.n-is) (splitting_pass d inv (λ _ o. w.if-bit-eq1.false (b ∙ o)))
+          (elim w.else-bit-eq1.branch [
+            | else-bit-eq1-via-then-bit-eq1+else-is_none v ↦
+                splitting_pass d inv (λ e _. splitting_goes_on d inv s _ v.common.ensures (v.is_none.ensures ∙ ap not v.if-is_none.false) (rw is e))
+            | else-bit-eq1-via-else-bit-eq1 v ↦ splitting_pass d inv (λ _ o. v.if-bit-eq1.false (b ∙ rw is o))
+          ])
     ]
-
-pub shape_of-w : goal.shape_of-w
-shape_of-w c = len (goal.at.shape_of-w c).At-loop-i
 
 pub returns : goal.returns
 returns c =
     let pre = c.requires in
-    splitting_all pre.domain.most c.copy.ensures pre c.loop-i-test.false c.loop-i.invariant
+    splitting_all pre.domain.most c.copy.ensures pre c.loop-x-test.false c.loop-x.invariant
