@@ -5,15 +5,17 @@ use mathlib.Core.Logic.{◌↔◌}
 use mathlib.Core.List.{List}
 use Prim.Native.Nat.{ℕ, ◌+◌, ◌≤◌, ◌<◌}
 use native.Mathlib.Omega.{arith}
-use Rattle.model.specs.Limits.{most_vertices}
+use native.Mathlib.Decide.{dec_lt}
+use Rattle.std.specs.Prelude.{Option, Some, None}
+use Rattle.model.specs.Limits.{most_vertices, hub_unit}
 use Rattle.model.specs.Build.Hubs.{Joined}
-use Rattle.model.specs.Build.Suffixes.{Some}
+use Rattle.model.specs.Build.Suffixes.{Some as Below}
 use Rattle.model.proofs.Joins.{joining_same, joined_as}
 use Rattle.model.proofs.Suffixes.{some_none}
 use Rattle.rows.specs.Region.{rest_row}
-use Rattle.rows.specs.Rows.{On, NextVertex, StepsTo}
-use Rattle.rows.proofs.Rows.{keeps_next}
-use Rattle.staging.specs.Stage.{Stages, Unpicked, Stageable, RestEntry}
+use Rattle.rows.specs.Rows.{On, FirstFrom, NoneFrom, StepsTo}
+use Rattle.rows.proofs.Rows.{keeps_none_from, keeps_first}
+use Rattle.staging.specs.Stage.{HasTaken, Unpicked, Stages, RestEntry}
 use Rattle.staging.proofs.Adding.{stages_none, stages_as, stages_over, stages_then}
 use Rattle.closed_starts.proofs.Emitting.{some_also, some_on}
 use Rattle.closed_starts.proofs.Striking.{unpicked_steps}
@@ -22,56 +24,56 @@ use Rattle.closed_starts.proofs.Striking.{unpicked_steps}
 abbrev pub RestOf : List ℕ → ℕ → ℕ → ℕ → Type 0
 RestOf w code s e = On w rest_row s × Joined (StepsTo w) code s e
 
--- the entries of the starts before v are staged, and v is the next vertex of row `rest`
-pub record Through (w : List ℕ) (code room cnt : ℕ) (w' : List ℕ) (k v : ℕ) : Type 0 where
+-- the entries of the starts before v are staged, or there are more than slots
+abbrev pub Passed : (w : List ℕ) (code cnt : ℕ) (w' : List ℕ) (r : Option ℕ) (v : ℕ) → Type 0
+Passed w code cnt w' r v = Stages w Unpicked (Below v (RestOf w code)) cnt w' r
+
+pub record Through (w : List ℕ) (code cnt : ℕ) (w' : List ℕ) (n v : ℕ) : Type 0 where
   pub high : v ≤ most_vertices
-  pub here : v < most_vertices → On w rest_row v
-  pub fits : k ≤ room
-  pub stages : Stages w Unpicked (Some v (RestOf w code)) room cnt w' k
+  pub stages : Passed w code cnt w' (Some n) v
 
-module _ {w : List ℕ} {code : ℕ} where
-  -- between two vertices of row `rest` there is no start
-  rest_on : {a b : ℕ} → NextVertex w rest_row a b → (e : ℕ) → Some a (RestOf w code) e ↔ Some b (RestOf w code) e
-  rest_on n e = some_on n.low (λ v h l x. n.gap v h l x.0)
+module _ {w : List ℕ} {code cnt : ℕ} where
+  pub through_none : HasTaken w cnt → Through w code cnt w cnt 0
+  through_none h = record { high = omega arith; stages = stages_none h some_none }
 
-  rest_entry : {n e : ℕ} → Some n (RestOf w code) e → RestEntry w code e
-  rest_entry x = record { start = x.which; on = x.holds.0; joined = x.holds.1 }
+  -- more than fit, with the starts that were not tried yet too
+  pub through_over : {w' : List ℕ} {v : ℕ} → Passed w code cnt w' None v → Stages w Unpicked (RestEntry w code) cnt w' None
+  through_over a = stages_over a (λ e x. record { start = x.which; on = x.holds.0; joined = x.holds.1 })
 
-module _ {w : List ℕ} {code room cnt : ℕ} (p : Stageable w code room cnt) where
-  pub through_none : {v : ℕ} → NextVertex w rest_row 0 v → Through w code room cnt w cnt v
-  through_none n =
-      record { high = n.high; here = n.here; fits = p.space.count; stages = stages_none p.space.count (λ e x. some_none e ((rest_on n e).1 x)) }
-
-  module _ {w₁ : List ℕ} {k v : ℕ} (a : Through w code room cnt w₁ k v) where
+  module _ {w₁ : List ℕ} {n v : ℕ} (a : Through w code cnt w₁ n v) where
     -- every start is passed
-    pub through_all : most_vertices ≤ v → Stages w Unpicked (RestEntry w code) room cnt w₁ k
-    through_all h =
+    pub through_all : NoneFrom w₁ rest_row v → Stages w Unpicked (RestEntry w code) cnt w₁ (Some n)
+    through_all x =
         stages_as a.stages (λ e. (
-          rest_entry,
-          λ x. record { which = x.start; small = omega (arith, x.joined.related.from); holds = (x.on, x.joined) },
+          λ s. record { start = s.which; on = s.holds.0; joined = s.holds.1 },
+          λ s. elim (dec_lt s.start v) [
+            | yes l ↦ record { which = s.start; small = l; holds = (s.on, s.joined) }
+            | no l ↦ absurd (gap.gap s.start (omega arith) s.joined.related.from s.on)
+          ],
         ))
+      where
+        gap : NoneFrom w rest_row v
+        gap = keeps_none_from a.stages.keeps (omega arith, λ e. omega arith) x
 
-    -- the entries of v are staged
-    module _ (h : v < most_vertices) {w₂ : List ℕ} {k₁ : ℕ} (c : Stages w₁ Unpicked (Joined (StepsTo w₁) code v) room k w₂ k₁) where
-      same : (e : ℕ) → Joined (StepsTo w₁) code v e ↔ Joined (StepsTo w) code v e
+    -- the entries of the next start are staged
+    module _ (small : code < hub_unit) {s : ℕ} (x' : FirstFrom w₁ rest_row v s) {w₂ : List ℕ} {r : Option ℕ}
+        (c : Stages w₁ Unpicked (Joined (StepsTo w₁) code s) n w₂ r) where
+      x : FirstFrom w rest_row v s
+      x = keeps_first a.stages.keeps (omega arith, λ e. omega arith) x'
+
+      same : (e : ℕ) → Joined (StepsTo w₁) code s e ↔ Joined (StepsTo w) code s e
       same e = let f = unpicked_steps a.stages.keeps in (joined_as (λ x y. Iff.symm (f x y)), joined_as f)
 
       -- none of them is the entry of another start
-      apart : (e : ℕ) → Some v (RestOf w code) e → Joined (StepsTo w) code v e → ⊥
-      apart e x j =
-          let i = x.holds.1 in
+      apart : (e : ℕ) → Below s (RestOf w code) e → Joined (StepsTo w) code s e → ⊥
+      apart e y j =
+          let i = y.holds.1 in
           let f = i.related in
           let g = j.related in
-          let q = joining_same _ _ _ _ _ p.space.code_small f.from f.to g.from g.to (sym i.is ∙ j.is) in
-          omega (arith, q.0, x.small)
+          let q = joining_same _ _ _ _ _ small f.from f.to g.from g.to (sym i.is ∙ j.is) in
+          omega (arith, q.0, y.small)
 
-      turn : Stages w Unpicked (Some (v + 1) (RestOf w code)) room cnt w₂ k₁
-      turn = stages_as (stages_then a.stages a.fits apart (stages_as c same)) (λ e. some_also v e (λ j. (a.here h, j), λ x. x.1))
-
-      pub through_over : room < k₁ → Stages w Unpicked (RestEntry w code) room cnt w₂ k₁
-      through_over l = stages_over turn l (λ e. rest_entry)
-
-      pub through_more : k₁ ≤ room → {q : ℕ} → NextVertex w₂ rest_row (v + 1) q → Through w code room cnt w₂ k₁ q
-      through_more l n' =
-          let n = keeps_next turn.keeps (omega arith, λ e. omega arith) n' in
-          record { high = n.high; here = n.here; fits = l; stages = stages_as turn (rest_on n) }
+      pub through_more : Passed w code cnt w₂ r (s + 1)
+      through_more =
+          let before = stages_as a.stages (λ e. some_on x.low (λ u h l y. x.gap u h l y.0)) in
+          stages_as (stages_then before apart (stages_as c same)) (λ e. some_also s e (λ j. (x.here, j), λ y. y.1))

@@ -1,66 +1,32 @@
-use mathlib.Core.Path.{◌≡◌, ◌∙◌}
 use native.Mathlib.Omega.{arith}
-use lib.ListN.{length}
+use Rattle.staging.proofs.Adding.{stages_taken}
 use Rattle.closed_starts.proofs.Striking.{unpicked_steps, transits_as}
-use Rattle.closed_starts.proofs.Passing.{through_none, through_all, through_over, through_more}
+use Rattle.closed_starts.proofs.Passing.{through_all, through_over, through_more}
 use Rattle.closed_starts.proofs.stage.Goals as goal
-use Rattle.closed_starts.proofs.stage.Goals.{After-stage_vertex-n}
 
--- a turn keeps the length
-len : (c : After-stage_vertex-n) → length c.stage_vertex-n.new.w ≡ length c.args.w.now
-len c = c.stage_vertex-n.ensures.keeps.len ∙ c.loop-s.invariant.stages.keeps.len
-
-pub loop-s-init : goal.loop-s-init
-loop-s-init c = through_none c.requires c.next-s.ensures
-
-pub stage_vertex-n-requires : goal.stage_vertex-n-requires
-stage_vertex-n-requires c =
+pub stage_vertex-requires : goal.stage_vertex-requires
+stage_vertex-requires c =
     let pre = c.requires in
-    let inv = c.loop-s.invariant in
+    let stages = c.loop-s.invariant.stages in
     record {
-      vertex = omega (arith, c.loop-s-test.true);
-      transits = transits_as (unpicked_steps inv.stages.keeps) pre.transits;
-      space = record {
-        code_small = pre.space.code_small;
-        count = omega (arith, pre.space.count, inv.fits);
-        there = omega (arith, pre.space.count, inv.stages.keeps.len, pre.space.there);
-      };
+      vertex = c.in-Some.ensures.high;
+      transits = transits_as (unpicked_steps stages.keeps) pre.transits;
+      code_small = pre.code_small;
+      taken = stages_taken stages;
     }
 
-pub shape_of-w-then-room-n : goal.shape_of-w-then-room-n
-shape_of-w-then-room-n c = len (goal.at.shape_of-w-then-room-n c).After-stage_vertex-n
-
-pub returns-then-room-n : goal.returns-then-room-n
-returns-then-room-n c =
-    through_over
-    c.requires
-    c.loop-s.invariant
-    (omega (arith, c.loop-s-test.true))
-    c.stage_vertex-n.ensures
-    c.if-room-n.true
-
-pub overflow_add-s : goal.overflow_add-s
-overflow_add-s c = omega (arith, c.loop-s-test.true)
-
-pub next-s-requires-in-loop-s : goal.next-s-requires-in-loop-s
-next-s-requires-in-loop-s c =
-    (record { row = omega arith; long = omega (arith, len (goal.at.next-s-requires-in-loop-s c).After-stage_vertex-n, c.requires.space.there) }, omega (arith, c.loop-s-test.true))
-
-pub loop-s-smaller : goal.loop-s-smaller
-loop-s-smaller c = omega (arith, c.next-s-in-loop-s.ensures.low, c.loop-s-test.true)
+pub returns-in_err-n : goal.returns-in_err-n
+returns-in_err-n c =
+    let over = rw c.in_err-n.was at c.stage_vertex.ensures in
+    rw c.from_residual.ensures (through_over (through_more c.loop-s.invariant c.requires.code_small c.in-Some.ensures over))
 
 pub loop-s-preserved : goal.loop-s-preserved
 loop-s-preserved c =
-    through_more
-    c.requires
-    c.loop-s.invariant
-    (omega (arith, c.loop-s-test.true))
-    c.stage_vertex-n.ensures
-    c.if-room-n.false
-    c.next-s-in-loop-s.ensures
-
-pub shape_of-w : goal.shape_of-w
-shape_of-w c = c.loop-s.invariant.stages.keeps.len
+    let fits = rw c.in_ok-n.was at c.stage_vertex.ensures in
+    record {
+      high = omega (arith, c.in-Some.ensures.high);
+      stages = through_more c.loop-s.invariant c.requires.code_small c.in-Some.ensures fits;
+    }
 
 pub returns : goal.returns
-returns c = through_all c.requires c.loop-s.invariant (omega (arith, c.loop-s-test.false))
+returns c = through_all c.loop-s.invariant (rw c.in_default.is at c.next.ensures)
