@@ -6,6 +6,7 @@ use mathlib.Core.Logic.{◌↔◌}
 use Prim.Native.Nat.{ℕ, ◌<◌}
 use native.Mathlib.Nat.{zero-add}
 use native.Mathlib.Omega.{arith}
+use Rattle.std.specs.Prelude.{Option}
 use Rattle.model.specs.Limits.{most_vertices}
 use Rattle.model.proofs.Hubs.{entry_by_as}
 use Rattle.model.proofs.Plus.{plus_as}
@@ -18,12 +19,12 @@ use Rattle.staging.proofs.Adding.{stages_as, stages_kept, stages_since}
 use Rattle.steps.specs.Filling.{Starting, LeadsInto, RowsFillable, FillsRows, SourcesClearable, Clears}
 use Rattle.pattern_entries.specs.Pattern.{Led, PatternStageable, PatternStages, LedEntry, StepsStaged}
 
-module _ {edges w : List ℕ} {starts code room cnt : ℕ} (p : PatternStageable edges w starts code room cnt) where
+module _ {edges w : List ℕ} {starts code cnt : ℕ} (p : PatternStageable edges w starts code cnt) where
   pub fillable : RowsFillable edges w parent_rows step_rows
   fillable =
       record {
         outgoing = p.outgoing;
-        long = omega (arith, p.there);
+        long = omega (arith, p.taken);
         from_rows = omega arith;
         to_rows = omega arith;
         apart = λ a b h k e. omega arith;
@@ -48,7 +49,7 @@ module _ {edges w : List ℕ} {starts code room cnt : ℕ} (p : PatternStageable
     starts_kept : (x : ℕ) → x < most_vertices → cell w₁ starts x ≡ cell w starts x
     starts_kept = keeps_cell f.keeps starts (λ r. omega (arith, r.most, p.least))
 
-    pub ready : SinglesStageable edges w₁ starts code room cnt
+    pub ready : SinglesStageable edges w₁ starts code cnt
     ready =
         record {
           domain = record {
@@ -59,27 +60,28 @@ module _ {edges w : List ℕ} {starts code room cnt : ℕ} (p : PatternStageable
           };
           small = p.outgoing.small;
           listed = λ s h o. let v = p.sources.only s h (sym (starts_kept s h) ∙ o) in (v.edge, (v.listed, v.from));
-          space = record { code_small = p.code_small; count = p.count; there = omega (arith, p.there, f.keeps.len) };
+          code_small = p.code_small;
+          taken = omega (arith, p.taken, f.keeps.len);
         }
 
-    module _ {w₂ : List ℕ} {r : ℕ} (s : StepsStaged w₁ code room cnt w₂ r) where
+    module _ {w₂ : List ℕ} {r : Option ℕ} (s : StepsStaged w₁ code cnt w₂ r) where
       pub clearable : SourcesClearable edges w₂ step_rows
       clearable =
           record {
             outgoing = p.outgoing;
-            long = omega (arith, p.there, f.keeps.len, s.stages.keeps.len);
+            long = omega (arith, p.taken, f.keeps.len, s.stages.keeps.len);
             base_rows = omega arith;
             sources = λ a t h k o. let (_, step) = s.starts a t (record { from = h; to = k; on = rw (zero-add a) at o }) in start step;
           }
 
-      pub pattern_stages : {w₃ : List ℕ} → Clears w₂ w₃ step_rows most_vertices → PatternStages w (LedEntry edges w code) room cnt w₃ r
+      pub pattern_stages : {w₃ : List ℕ} → Clears w₂ w₃ step_rows most_vertices → PatternStages w (LedEntry edges w code) cnt w₃ r
       pattern_stages {w₃} e = record { stages = first; quiet = e.empty }
         where
-          by_words : Stages w₁ (InRows parent_rows open_row) (LedEntry edges w code) room cnt w₂ r
+          by_words : Stages w₁ (InRows parent_rows open_row) (LedEntry edges w code) cnt w₂ r
           by_words = stages_as s.stages (λ x. (entry_by_as (plus_as steps), entry_by_as (λ a b. Iff.symm (plus_as steps a b))))
 
-          cleared : Stages w₁ (InRows parent_rows open_row) (LedEntry edges w code) room cnt w₃ r
+          cleared : Stages w₁ (InRows parent_rows open_row) (LedEntry edges w code) cnt w₃ r
           cleared = stages_kept by_words e.keeps (λ q x y. omega (arith, x.least, y.most)) (λ q l y. omega (arith, y.most))
 
-          first : Stages w (InRows parent_rows open_row) (LedEntry edges w code) room cnt w₃ r
+          first : Stages w (InRows parent_rows open_row) (LedEntry edges w code) cnt w₃ r
           first = stages_since cleared f.keeps (λ q x y. omega (arith, x.least, y.most)) (λ q l y. omega (arith, y.most))
