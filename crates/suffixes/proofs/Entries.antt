@@ -26,8 +26,7 @@ use Rattle.model.proofs.Edges.{test_edge, edge_fields}
 use Rattle.model.proofs.Hubs.{entry_by_as, pattern_by, entry_pattern, OfPattern, runs_from}
 use Rattle.model.proofs.Suffixes.{all_beyond}
 use Rattle.model.proofs.Codes.{code_inj}
-use Rattle.rows.specs.Rows.{NextVertex}
-use Rattle.rows.proofs.Rows.{next_none}
+use Rattle.rows.specs.Rows.{NoneFrom}
 use Rattle.model.proofs.Plus.{plus_from}
 use Rattle.parent_rows.specs.Steps.{Trail}
 use Rattle.parent_rows.proofs.Trails.{trail_cut, trail_to, trail_spells, spells_trail}
@@ -76,9 +75,9 @@ module _ {edges : List ℕ} (w : List ℕ) (dead : (a t : ℕ) → a < most_vert
   no_entry v e (EntryBy.into p) = no_plus v p.related
 
 -- if the row of one label more is empty
-pub child_none : {edges word w : List ℕ} {c r q : ℕ} → ChildRow edges word w c r → NextVertex w r 0 q → q ≡ most_vertices
+pub child_none : {edges word w : List ℕ} {c r : ℕ} → ChildRow edges word w c r → NoneFrom w r 0
     → (v : List ℕ) (e : ℕ) → PatternEntry edges (v ++ suc c ∷ word) e → ⊥
-child_none {word = word} {c = c} f n e = no_entry (suc c ∷ word) (λ a t k trail. next_none n refl e a k (f.has a t k trail))
+child_none {word = word} {c = c} f n = no_entry (suc c ∷ word) (λ a t k trail. n.gap a (omega arith) k (f.has a t k trail))
 
 -- ---- over a graph
 

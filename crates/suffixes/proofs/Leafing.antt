@@ -9,6 +9,7 @@ use Prim.Native.Nat.{ℕ, suc, ◌+◌, ◌-◌, ◌≤◌, ◌<◌}
 use native.Mathlib.Omega.{arith}
 use lib.ListN.{length, take, drop, length-drop}
 use lib.Seq.{take_all}
+use Rattle.std.specs.Prelude.{Option, Some}
 use Rattle.model.specs.Limits.{most_vertices, most_label, most_longest}
 use Rattle.model.specs.Lists.{◌∈◌}
 use Rattle.model.specs.Edges.{to_of}
@@ -24,7 +25,7 @@ use Rattle.rows.specs.Region.{step_rows, parent_rows}
 use Rattle.rows.specs.Rows.{cell, KeepsRows, InRows, Empty, Becomes}
 use Rattle.rows.proofs.Rows.{keeps_cell, keeps_row, keeps_empty}
 use Rattle.model.proofs.Plus.{plus_as}
-use Rattle.staging.specs.Stage.{Stages}
+use Rattle.staging.specs.Stage.{HasTaken, Stages}
 use Rattle.staging.proofs.Adding.{stages_none, stages_as, stages_since, stages_within}
 use Rattle.parent_rows.specs.Steps.{Trail}
 use Rattle.steps.specs.Filling.{Outgoing, Starting, LeadsInto, Gatherable, Gathers}
@@ -35,11 +36,11 @@ use Rattle.suffixes.specs.Suffixes.{Spans, PatternEntry, word_of, base_of, Child
 use Rattle.suffixes.proofs.Entries.{no_entry}
 use Rattle.suffixes.proofs.Children.{word_length, child_labels}
 
-module _ {edges slots digits w : List ℕ} {d starts : ℕ} {live : List ℕ} {longest room cnt : ℕ}
-    (l : LeafStageable edges slots digits w d starts live longest room cnt) where
+module _ {edges slots digits w : List ℕ} {d starts : ℕ} {live : List ℕ} {longest cnt : ℕ}
+    (l : LeafStageable edges slots digits w d starts live longest cnt) where
   -- what staging needs is kept, if the parent's rows and those before the children's are
   pub stageable_kept : {w' live' : List ℕ} {K : ℕ → Type 0} {n : ℕ} → KeepsRows w w' K → ((q : ℕ) → InRows parent_rows (base_of d) q → K q)
-      → Empty w' step_rows most_vertices → length edges ≤ length live' → n ≤ room → LeafStageable edges slots digits w' d starts live' longest room n
+      → Empty w' step_rows most_vertices → length edges ≤ length live' → HasTaken w' n → LeafStageable edges slots digits w' d starts live' longest n
   stageable_kept k f quiet listable h =
       record {
         grouped = l.grouped;
@@ -50,8 +51,7 @@ module _ {edges slots digits w : List ℕ} {d starts : ℕ} {live : List ℕ} {l
         spelled = λ a t i trail. keeps_cell k starts (f _ (record { least = omega (arith, l.least); most = l.before })) a i ∙ l.spelled a t i trail;
         quiet = quiet;
         listable = listable;
-        count = h;
-        there = omega (arith, l.there, k.len);
+        taken = h;
       }
 
   -- where the word leads from, row `starts` has
@@ -63,8 +63,8 @@ module _ {edges slots digits w : List ℕ} {d starts : ℕ} {live : List ℕ} {l
 none_taken : (n : ℕ) (l : List ℕ) {x : ℕ} → n ≡ 0 → x ∈ take n l → ⊥
 none_taken n l z m = Memᴰ.not-nil (rw z at m)
 
-module _ {edges slots digits w : List ℕ} {d starts : ℕ} {live : List ℕ} {longest room cnt c : ℕ}
-    (l : LeafStageable edges slots digits w d starts live longest room cnt) (small : c < most_label) where
+module _ {edges slots digits w : List ℕ} {d starts : ℕ} {live : List ℕ} {longest cnt c : ℕ}
+    (l : LeafStageable edges slots digits w d starts live longest cnt) (small : c < most_label) where
   abbrev word : List ℕ
   word = word_of digits d
 
@@ -79,7 +79,7 @@ module _ {edges slots digits w : List ℕ} {d starts : ℕ} {live : List ℕ} {l
   pub gatherable : Gatherable (section edges slots c) w starts live
   gatherable =
       record {
-        has = record { row = omega (arith, l.before, l.chosen.more, l.chosen.most); long = omega (arith, l.there) };
+        has = record { row = omega (arith, l.before, l.chosen.more, l.chosen.most); long = omega (arith, l.taken) };
         room = omega (arith, section_fits l.grouped c small, l.listable);
       }
 
@@ -127,30 +127,33 @@ module _ {edges slots digits w : List ℕ} {d starts : ℕ} {live : List ℕ} {l
       filled : ChildRow edges word w₁ c (base_of d + c)
       filled = record { has = λ a t k trail. b.row.all a k (spelled_from a t trail) }
 
+      taken : HasTaken w₁ cnt
+      taken = omega (arith, l.taken, b.keeps.len)
+
       quiet : Empty w₁ step_rows most_vertices
       quiet = keeps_empty b.keeps (λ q x e. omega (arith, x.most)) l.quiet
 
       -- staged since the row was made
-      since : {K P : ℕ → Type 0} {w₂ : List ℕ} {r : ℕ} → ((q : ℕ) → InRows parent_rows (base_of d + c) q → K q) → Stages w₁ K P room cnt w₂ r
-          → Stages w (InRows parent_rows (base_of d + c)) P room cnt w₂ r
+      since : {K P : ℕ → Type 0} {w₂ : List ℕ} {r : Option ℕ} → ((q : ℕ) → InRows parent_rows (base_of d + c) q → K q) → Stages w₁ K P cnt w₂ r
+          → Stages w (InRows parent_rows (base_of d + c)) P cnt w₂ r
       since f s =
           stages_since (stages_within s f) b.keeps (λ q x e. omega (arith, x.most)) (λ q h e. omega (arith, deep, l.chosen.most))
 
       leaf_none : ((e : ℕ) → Leaf longest (PatternEntry edges) word c e → ⊥)
-          → LeafStages edges digits w d c (Leaf longest (PatternEntry edges) word c) room cnt w₁ cnt
-      leaf_none none = record { stages = since (λ q x. x) (stages_none l.count none); child = filled; quiet = quiet }
+          → LeafStages edges digits w d c (Leaf longest (PatternEntry edges) word c) cnt w₁ (Some cnt)
+      leaf_none none = record { stages = since (λ q x. x) (stages_none taken none); child = filled; quiet = quiet }
 
       -- no edge is gathered
-      pub leaf_empty : n ≡ 0 → LeafStages edges digits w d c (Leaf longest (PatternEntry edges) word c) room cnt w₁ cnt
+      pub leaf_empty : n ≡ 0 → LeafStages edges digits w d c (Leaf longest (PatternEntry edges) word c) cnt w₁ (Some cnt)
       leaf_empty z = leaf_none (λ e p. none_gathered z e p.holds)
 
       -- the pattern is no minimum repeat
-      pub leaf_folds : own? (suc c ∷ word) ≡ false → LeafStages edges digits w d c (Leaf longest (PatternEntry edges) word c) room cnt w₁ cnt
+      pub leaf_folds : own? (suc c ∷ word) ≡ false → LeafStages edges digits w d c (Leaf longest (PatternEntry edges) word c) cnt w₁ (Some cnt)
       leaf_folds e = leaf_none (λ x p. test_fails (test_own (suc c ∷ word) keyed.long) e p.pattern.own)
 
       -- ---- the edges and the word lead where the pattern does
-      kept : LeafStageable edges slots digits w₁ d starts live longest room cnt
-      kept = stageable_kept l b.keeps (λ q x e. omega (arith, x.most)) quiet l.listable l.count
+      kept : LeafStageable edges slots digits w₁ d starts live longest cnt
+      kept = stageable_kept l b.keeps (λ q x e. omega (arith, x.most)) quiet l.listable taken
 
       -- row `starts` is as it was
       gathers : Gathers (section edges slots c) w₁ starts live' n
@@ -181,7 +184,7 @@ module _ {edges slots digits w : List ℕ} {d starts : ℕ} {live : List ℕ} {l
           via : t < most_vertices → LeadsInto gathered w₁ parent_rows a t ↔ Via edges w₁ parent_rows a (suc c) t
           via k = live_via l.grouped c small gathers (started kept) k
 
-      pub pattern_stageable : {m : ℕ} → m ≡ code (suc c ∷ word) → PatternStageable gathered w₁ (base_of d + c) m room cnt
+      pub pattern_stageable : {m : ℕ} → m ≡ code (suc c ∷ word) → PatternStageable gathered w₁ (base_of d + c) m cnt
       pattern_stageable {m} e =
           record {
             outgoing = outgoing;
@@ -190,13 +193,12 @@ module _ {edges slots digits w : List ℕ} {d starts : ℕ} {live : List ℕ} {l
             quiet = quiet;
             sources = b.row;
             code_small = omega (arith, e, code_below l.chosen.most keyed);
-            count = l.count;
-            there = kept.there;
+            taken = taken;
           }
 
-      pub leaf_stages : {m : ℕ} → m ≡ code (suc c ∷ word) → own? (suc c ∷ word) ≡ true → {w₂ : List ℕ} {r : ℕ}
-          → PatternStages w₁ (LedEntry gathered w₁ m) room cnt w₂ r
-          → LeafStages edges digits w d c (Leaf longest (PatternEntry edges) word c) room cnt w₂ r
+      pub leaf_stages : {m : ℕ} → m ≡ code (suc c ∷ word) → own? (suc c ∷ word) ≡ true → {w₂ : List ℕ} {r : Option ℕ}
+          → PatternStages w₁ (LedEntry gathered w₁ m) cnt w₂ r
+          → LeafStages edges digits w d c (Leaf longest (PatternEntry edges) word c) cnt w₂ r
       leaf_stages {m} e own {w₂} {r} p =
           record {
             stages = since (λ q x. record { least = x.least; most = omega (arith, x.most, deep, l.chosen.most) })

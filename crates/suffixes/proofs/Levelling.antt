@@ -6,8 +6,10 @@ use native.Mathlib.Omega.{arith}
 use native.Mathlib.Decide.{dec_lt}
 use lib.ListN.{length, take, drop}
 use lib.Seq.{take_all}
+use Rattle.std.specs.Prelude.{Option}
+use Rattle.std.proofs.lemmas.Option.{IfSome_then}
 use Rattle.model.specs.Limits.{most_vertices, most_label, most_longest}
-use Rattle.model.specs.Build.Suffixes.{Leaf, Some}
+use Rattle.model.specs.Build.Suffixes.{Leaf, Some as Below}
 use Rattle.rows.specs.Region.{step_rows, parent_rows, saved_rows}
 use Rattle.rows.specs.Rows.{InRows, Empty}
 use Rattle.rows.proofs.Rows.{keeps_cell, keeps_row, keeps_empty}
@@ -18,8 +20,8 @@ use Rattle.parent_rows.specs.Steps.{Word, ParentFillable, FillsParent, ParentCle
 use Rattle.suffixes.specs.Suffixes.{PatternEntry, word_of, base_of, NodeStageable, LeafStageable, LeavesStage, LevelStages}
 use Rattle.suffixes.proofs.Children.{word_length}
 
-module _ {edges slots digits w : List ℕ} {d starts : ℕ} {live : List ℕ} {longest room cnt : ℕ}
-    (n : NodeStageable edges slots digits w d starts live longest room cnt) where
+module _ {edges slots digits w : List ℕ} {d starts : ℕ} {live : List ℕ} {longest cnt : ℕ}
+    (n : NodeStageable edges slots digits w d starts live longest cnt) where
   abbrev word : List ℕ
   word = word_of digits d
 
@@ -38,7 +40,7 @@ module _ {edges slots digits w : List ℕ} {d starts : ℕ} {live : List ℕ} {l
 
   -- ---- the parent's rows filled
   module _ {w₁ : List ℕ} (f : FillsParent edges lent w w₁) where
-    pub leaf_stageable : {live' : List ℕ} → length edges ≤ length live' → LeafStageable edges slots digits w₁ d starts live' longest room cnt
+    pub leaf_stageable : {live' : List ℕ} → length edges ≤ length live' → LeafStageable edges slots digits w₁ d starts live' longest cnt
     leaf_stageable listable =
         record {
           grouped = n.grouped;
@@ -49,37 +51,36 @@ module _ {edges slots digits w : List ℕ} {d starts : ℕ} {live : List ℕ} {l
           spelled = λ a t k trail. keeps_cell f.keeps starts (omega (arith, n.least)) a k ∙ n.spelled a t k trail;
           quiet = f.quiet;
           listable = listable;
-          count = n.count;
-          there = omega (arith, n.there, f.keeps.len);
+          taken = omega (arith, n.taken, f.keeps.len);
         }
 
     -- ---- the leaves staged
     abbrev LeafEntries : ℕ → Type 0
-    LeafEntries = Some most_label (Leaf longest (PatternEntry edges) word)
+    LeafEntries = Below most_label (Leaf longest (PatternEntry edges) word)
 
-    module _ {w₂ : List ℕ} {r : ℕ} (v : LeavesStage edges digits w₁ d most_label LeafEntries room cnt w₂ r) where
+    module _ {w₂ : List ℕ} {r : Option ℕ} (v : LeavesStage edges digits w₁ d most_label LeafEntries cnt w₂ r) where
       pub parent_clearable : ParentClearable edges slots lent w₂
       parent_clearable =
           record {
             grouped = n.grouped;
             word = lent_word;
-            long = omega (arith, n.there, f.keeps.len, v.stages.keeps.len);
+            long = omega (arith, n.taken, f.keeps.len, v.stages.keeps.len);
             parent = record {
               rows = λ a h. keeps_row v.stages.keeps (record { least = omega arith; most = omega arith }) (f.parent.rows a h);
             };
           }
 
       -- ---- the parent's rows emptied
-      pub level_stages : {w₃ : List ℕ} → Clears w₂ w₃ parent_rows most_vertices → LevelStages edges digits w d LeafEntries room cnt w₃ r
+      pub level_stages : {w₃ : List ℕ} → Clears w₂ w₃ parent_rows most_vertices → LevelStages edges digits w d LeafEntries cnt w₃ r
       level_stages {w₃} e =
           record {
             stages = stages_since cleared f.keeps (λ q x. x.least) (λ q h. omega arith);
-            children = λ h. record {
+            children = IfSome_then r v.children (λ _ x. record {
               all = λ c k. record {
                 has = λ a t i trail.
-                    keeps_cell e.keeps (base_of d + c) (λ x. omega (arith, x.most)) a i ∙ ((v.children h).all c k).has a t i trail;
+                    keeps_cell e.keeps (base_of d + c) (λ y. omega (arith, y.most)) a i ∙ (x.all c k).has a t i trail;
               };
-            };
+            });
             quiet = record {
               none = λ q j x k on. elim (dec_lt q parent_rows) [
                 | yes l ↦ first.none q j (record { least = x.least; most = omega arith }) k on
@@ -91,8 +92,8 @@ module _ {edges slots digits w : List ℕ} {d starts : ℕ} {live : List ℕ} {l
           first : Empty w₃ step_rows most_vertices
           first = keeps_empty e.keeps (λ q x y. omega (arith, x.most, y.least)) v.quiet
 
-          within : Stages w₁ (InRows saved_rows (base_of d)) LeafEntries room cnt w₂ r
+          within : Stages w₁ (InRows saved_rows (base_of d)) LeafEntries cnt w₂ r
           within = stages_within v.stages (λ q x. record { least = omega (arith, x.least); most = x.most })
 
-          cleared : Stages w₁ (InRows saved_rows (base_of d)) LeafEntries room cnt w₃ r
+          cleared : Stages w₁ (InRows saved_rows (base_of d)) LeafEntries cnt w₃ r
           cleared = stages_kept within e.keeps (λ q x y. omega (arith, x.least, y.most)) (λ q h y. omega (arith, y.most))

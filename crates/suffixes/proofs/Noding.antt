@@ -1,44 +1,33 @@
 -- The entries with more labels before a word, child by child.
 use mathlib.Core.Path.{◌≡◌, subst, ◌∙◌}
-use mathlib.Core.List.{List, ◌∷◌, ◌++◌}
+use mathlib.Core.List.{List, ◌∷◌}
 use mathlib.Core.Logic.{◌⊎◌, inl, ⊎_elim, ⊎_map}
 use Prim.Native.Nat.{ℕ, suc, ◌+◌, ◌≤◌, ◌<◌}
 use native.Mathlib.Omega.{arith}
 use lib.ListN.{length}
-use Rattle.model.specs.Limits.{most_vertices, most_label}
-use Rattle.model.specs.Build.Suffixes.{Beyond, Leaf, Branch, Some}
+use Rattle.std.specs.Prelude.{false, Option, Some, None, is_some}
+use Rattle.model.specs.Limits.{most_label}
+use Rattle.model.specs.Build.Suffixes.{Beyond, Leaf, Branch, Some as Below}
 use Rattle.model.proofs.Suffixes.{some_none, some_up, some_more, beyond_parts, beyond_long, beyond_none, branches_apart, parts_apart}
 use Rattle.rows.specs.Region.{saved_rows}
 use Rattle.rows.specs.Rows.{KeepsRows, InRows, NextVertex}
 use Rattle.rows.proofs.Rows.{keeps_then, keeps_cell}
 use Rattle.staging.specs.Stage.{Stages}
-use Rattle.staging.proofs.Adding.{stages_none, stages_as, stages_then, stages_over, stages_within}
+use Rattle.staging.proofs.Adding.{stages_taken, stages_none, stages_as, stages_then, stages_over, stages_within}
 use Rattle.parent_rows.specs.Steps.{Sources}
 use Rattle.parent_rows.proofs.Suffixed.{sources_more}
 use Rattle.suffixes.specs.Suffixes.{PatternEntry, word_of, base_of, NodeStageable, NodeStages, ChildRow, Child, LevelStages}
 use Rattle.suffixes.proofs.Entries.{one_pattern, child_none}
 use Rattle.suffixes.proofs.Children.{word_length, child_labels}
+use Rattle.suffixes.proofs.Labels.{if_any}
 
 -- since the entries with one label before the word were staged, those with more have been for the first c labels
-abbrev pub Going : (edges digits w₁ : List ℕ) (d longest room n₁ : ℕ) (w : List ℕ) (n c : ℕ) → Type 0
-Going edges digits w₁ d longest room n₁ w n c =
-    LevelStages edges digits w₁ d (Some c (Branch longest (PatternEntry edges) (word_of digits d))) room n₁ w n
+abbrev pub Going : (edges digits w₁ : List ℕ) (d longest n₁ : ℕ) (w : List ℕ) (r : Option ℕ) (c : ℕ) → Type 0
+Going edges digits w₁ d longest n₁ w r c =
+    LevelStages edges digits w₁ d (Below c (Branch longest (PatternEntry edges) (word_of digits d))) n₁ w r
 
--- with that, what each turn begins with: there is room, and the room for edges is as long as it was
-pub record NodeTurn (edges digits w₁ : List ℕ) (d : ℕ) (live₁ : List ℕ) (longest room n₁ : ℕ) (w live : List ℕ) (n c : ℕ) : Type 0 where
-  pub fits : n ≤ room
-  pub most : c ≤ most_label
-  pub long : length live ≡ length live₁
-  pub going : Going edges digits w₁ d longest room n₁ w n c
-
--- where the ways of a turn meet
-pub turn_at : {edges digits w₁ live₁ w w' live live' : List ℕ} {d longest room n₁ n n' c : ℕ} → w ≡ w' → live ≡ live' → n ≡ n'
-    → NodeTurn edges digits w₁ d live₁ longest room n₁ w' live' n' c → NodeTurn edges digits w₁ d live₁ longest room n₁ w live n c
-turn_at e f g t = rw (e, f, g) t
-
-module _ {edges slots digits w₀ : List ℕ} {d starts : ℕ} {live : List ℕ} {longest room cnt : ℕ}
-    (p : NodeStageable edges slots digits w₀ d starts live longest room cnt) {w₁ : List ℕ} {n₁ : ℕ}
-    (v : LevelStages edges digits w₀ d (Some most_label (Leaf longest (PatternEntry edges) (word_of digits d))) room cnt w₁ n₁) where
+module _ {edges slots digits w₀ : List ℕ} {d starts : ℕ} {live : List ℕ} {longest cnt : ℕ}
+    (p : NodeStageable edges slots digits w₀ d starts live longest cnt) where
   abbrev word : List ℕ
   word = word_of digits d
 
@@ -46,69 +35,69 @@ module _ {edges slots digits w₀ : List ℕ} {d starts : ℕ} {live : List ℕ}
   WithAny = Beyond longest (PatternEntry edges) word
 
   abbrev WithOne : ℕ → Type 0
-  WithOne = Some most_label (Leaf longest (PatternEntry edges) word)
+  WithOne = Below most_label (Leaf longest (PatternEntry edges) word)
 
   abbrev WithMore : ℕ → ℕ → Type 0
-  WithMore c = Some c (Branch longest (PatternEntry edges) word)
+  WithMore c = Below c (Branch longest (PatternEntry edges) word)
 
   -- ---- no child is tried
 
-  -- there is no room
-  pub node_full : room < n₁ → NodeStages w₀ d WithAny room cnt w₁ n₁
-  node_full h = record { stages = stages_over v.stages h (λ e s. (beyond_parts word e).0 (inl s)); quiet = v.quiet }
+  -- there are more than slots
+  pub node_full : {w₁ : List ℕ} → LevelStages edges digits w₀ d WithOne cnt w₁ None → NodeStages w₀ d WithAny cnt w₁ None
+  node_full v = record { stages = stages_over v.stages (λ e s. (beyond_parts word e).0 (inl s)); quiet = v.quiet }
 
-  -- no pattern has more labels
-  pub node_short : longest ≤ d + 1 → NodeStages w₀ d WithAny room cnt w₁ n₁
-  node_short h =
-      record {
-        stages = stages_as v.stages (λ e. (
-          λ s. (beyond_parts word e).0 (inl s),
-          λ b. ⊎_elim (λ s. s) (λ s. absurd (none e s)) ((beyond_parts word e).1 b),
-        ));
-        quiet = v.quiet;
-      }
-    where
-      none : (e : ℕ) → WithMore most_label e → ⊥
-      none e s = beyond_long (suc s.which ∷ word) e (omega (arith, word_length p.chosen)) s.holds
+  module _ {w₁ : List ℕ} {n₁ : ℕ} (v : LevelStages edges digits w₀ d WithOne cnt w₁ (Some n₁)) where
+    -- no pattern has more labels
+    pub node_short : longest ≤ d + 1 → NodeStages w₀ d WithAny cnt w₁ (Some n₁)
+    node_short h =
+        record {
+          stages = stages_as v.stages (λ e. (
+            λ s. (beyond_parts word e).0 (inl s),
+            λ b. ⊎_elim (λ s. s) (λ s. absurd (none e s)) ((beyond_parts word e).1 b),
+          ));
+          quiet = v.quiet;
+        }
+      where
+        none : (e : ℕ) → WithMore most_label e → ⊥
+        none e s = beyond_long (suc s.which ∷ word) e (omega (arith, word_length p.chosen)) s.holds
 
-  -- ---- child by child
-  module _ (room_left : n₁ ≤ room) where
-    pub going_none : Going edges digits w₁ d longest room n₁ w₁ n₁ 0
-    going_none = record { stages = stages_none room_left some_none; children = v.children; quiet = v.quiet }
+    -- ---- child by child
+    pub going_none : Going edges digits w₁ d longest n₁ w₁ (Some n₁) 0
+    going_none = record { stages = stages_none (stages_taken v.stages) some_none; children = v.children; quiet = v.quiet }
 
-    module _ {w : List ℕ} {n c : ℕ} (g : Going edges digits w₁ d longest room n₁ w n c) where
-      -- both together
-      both : Stages w₀ (InRows saved_rows (base_of d)) (λ e. WithOne e ⊎ WithMore c e) room cnt w n
-      both = stages_then v.stages room_left (parts_apart (one_pattern p.chosen.most) word most_label c) g.stages
+    -- both together
+    both : {w : List ℕ} {r : Option ℕ} {c : ℕ} → Going edges digits w₁ d longest n₁ w r c
+        → Stages w₀ (InRows saved_rows (base_of d)) (λ e. WithOne e ⊎ WithMore c e) cnt w r
+    both {c = c} g = stages_then v.stages (parts_apart (one_pattern p.chosen.most) word most_label c) g.stages
 
-      pub node_over : c ≤ most_label → room < n → NodeStages w₀ d WithAny room cnt w n
-      node_over h k = record { stages = stages_over both k (λ e s. (beyond_parts word e).0 (⊎_map (λ a. a) (some_up h) s)); quiet = g.quiet }
+    pub node_over : {w : List ℕ} {c : ℕ} → Going edges digits w₁ d longest n₁ w None c → c ≤ most_label → NodeStages w₀ d WithAny cnt w None
+    node_over g h = record { stages = stages_over (both g) (λ e s. (beyond_parts word e).0 (⊎_map (λ a. a) (some_up h) s)); quiet = g.quiet }
 
-      pub node_all : c ≤ most_label → most_label ≤ c → NodeStages w₀ d WithAny room cnt w n
+    module _ {w : List ℕ} {n c : ℕ} (g : Going edges digits w₁ d longest n₁ w (Some n) c) where
+      pub node_all : c ≤ most_label → most_label ≤ c → NodeStages w₀ d WithAny cnt w (Some n)
       node_all h k =
           let e : c ≡ most_label = omega arith in
-          let all = subst (λ (m : ℕ). Stages w₀ (InRows saved_rows (base_of d)) (λ x. WithOne x ⊎ WithMore m x) room cnt w n) e both in
+          let all = subst (λ (m : ℕ). Stages w₀ (InRows saved_rows (base_of d)) (λ x. WithOne x ⊎ WithMore m x) cnt w (Some n)) e (both g) in
           record { stages = stages_as all (beyond_parts word); quiet = g.quiet }
 
-      module _ (h : c < most_label) (fits : n ≤ room) where
+      module _ (h : c < most_label) where
         -- the child's row
         child_row : ChildRow edges word w c (base_of d + c)
-        child_row = (g.children fits).all c h
+        child_row = g.children.all c h
 
         -- a child from which nothing can be spelled
-        pub going_skip : {q : ℕ} → NextVertex w (base_of d + c) 0 q → most_vertices ≤ q → Going edges digits w₁ d longest room n₁ w n (c + 1)
-        going_skip {q} x l =
+        pub going_skip : (q : Option ℕ) → NextVertex w (base_of d + c) 0 q → is_some q ≡ false
+            → Going edges digits w₁ d longest n₁ w (Some n) (c + 1)
+        going_skip (Some q) x e = cc
+        going_skip None x e =
             record {
               stages = stages_as g.stages (λ e. (
                 λ s. (some_more c e).0 (inl s),
-                λ s. ⊎_elim (λ b. b) (λ b. absurd (beyond_none (suc c ∷ word) none e b)) ((some_more c e).1 s),
+                λ s. ⊎_elim (λ b. b) (λ b. absurd (beyond_none (suc c ∷ word) (child_none child_row x) e b)) ((some_more c e).1 s),
               ));
               children = g.children;
               quiet = g.quiet;
             }
-          where
-            none : (v : List ℕ) (e : ℕ) → PatternEntry edges (v ++ suc c ∷ word) e → ⊥
-            none = child_none child_row x (omega (arith, x.high))
 
         -- a child that goes on
         module _ {next : List ℕ} (f : Child digits d c next) {d' : ℕ} (q : d' ≡ suc d) where
@@ -119,7 +108,7 @@ module _ {edges slots digits w₀ : List ℕ} {d starts : ℕ} {live : List ℕ}
           since = keeps_then v.stages.keeps g.stages.keeps
 
           pub child_node : {live' : List ℕ} → length edges ≤ length live' → d + 1 < longest
-              → NodeStageable edges slots next w d' (base_of d + c) live' longest room n
+              → NodeStageable edges slots next w d' (base_of d + c) live' longest n
           child_node listable deep =
               record {
                 grouped = p.grouped;
@@ -135,8 +124,7 @@ module _ {edges slots digits w₀ : List ℕ} {d starts : ℕ} {live : List ℕ}
                 spelled = λ a t k trail. child_row.has a t k (rw next_word at trail);
                 quiet = g.quiet;
                 listable = listable;
-                count = fits;
-                there = omega (arith, since.len, p.there);
+                taken = stages_taken g.stages;
               }
             where
               sources : Sources edges (suc c ∷ word) w
@@ -146,22 +134,22 @@ module _ {edges slots digits w₀ : List ℕ} {d starts : ℕ} {live : List ℕ}
                   (rw (word_length p.chosen) since)
                   (λ a t k trail. rw (word_length p.chosen) (child_row.has a t k trail))
 
-          pub going_more : {w' : List ℕ} {r : ℕ} → NodeStages w d' (Beyond longest (PatternEntry edges) (word_of next d')) room n w' r
-              → Going edges digits w₁ d longest room n₁ w' r (c + 1)
+          pub going_more : {w' : List ℕ} {r : Option ℕ} → NodeStages w d' (Beyond longest (PatternEntry edges) (word_of next d')) n w' r
+              → Going edges digits w₁ d longest n₁ w' r (c + 1)
           going_more {w'} {r} z =
               record {
-                stages = stages_as (stages_then g.stages fits (branches_apart (one_pattern p.chosen.most) word c) branch) (some_more c);
-                children = λ _. record {
+                stages = stages_as (stages_then g.stages (branches_apart (one_pattern p.chosen.most) word c) branch) (some_more c);
+                children = if_any r (record {
                   all = λ x i. record {
                     has = λ a t j trail.
                         keeps_cell z.stages.keeps (base_of d + x) (record { least = omega arith; most = omega arith }) a j
-                        ∙ ((g.children fits).all x i).has a t j trail;
+                        ∙ (g.children.all x i).has a t j trail;
                   };
-                };
+                });
                 quiet = z.quiet;
               }
             where
-              branch : Stages w (InRows saved_rows (base_of d)) (Branch longest (PatternEntry edges) word c) room n w' r
+              branch : Stages w (InRows saved_rows (base_of d)) (Branch longest (PatternEntry edges) word c) n w' r
               branch = stages_within
-                  (subst (λ (l : List ℕ). Stages w (InRows saved_rows (base_of d')) (Beyond longest (PatternEntry edges) l) room n w' r) next_word z.stages)
+                  (subst (λ (l : List ℕ). Stages w (InRows saved_rows (base_of d')) (Beyond longest (PatternEntry edges) l) n w' r) next_word z.stages)
                   (λ r x. record { least = x.least; most = omega (arith, x.most) })

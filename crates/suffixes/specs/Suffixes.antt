@@ -1,13 +1,13 @@
 -- Staging the entries of all patterns, by their suffixes.
-use Rattle.std.specs.Prelude.{◌≡◌, List, ◌∷◌, ℕ, suc, ◌+◌, ◌-◌, ◌*◌, ◌≤◌, ◌<◌, length, drop}
-use Rattle.model.specs.Limits.{most_vertices, most_label, most_longest, least_work}
+use Rattle.std.specs.Prelude.{◌≡◌, List, ◌∷◌, ℕ, suc, ◌+◌, ◌-◌, ◌*◌, ◌≤◌, ◌<◌, length, drop, Option, OnSome}
+use Rattle.model.specs.Limits.{most_vertices, most_label, most_longest}
 use Rattle.model.specs.Lists.{◌∈◌}
 use Rattle.model.specs.Patterns.{code}
 use Rattle.model.specs.Build.Hubs.{EntryBy, Plus}
 use Rattle.edges.specs.Grouped.{Grouped}
 use Rattle.rows.specs.Region.{step_rows, parent_rows, saved_rows, root_row, child_rows}
 use Rattle.rows.specs.Rows.{On, InRows, Empty}
-use Rattle.staging.specs.Stage.{Stages}
+use Rattle.staging.specs.Stage.{HasTaken, Stages}
 use Rattle.parent_rows.specs.Steps.{Trail, Sources, Parent}
 
 -- the labels lead from vertex a to vertex b
@@ -36,8 +36,8 @@ abbrev pub base_of : ℕ → ℕ
 base_of d = child_rows + most_label * d
 
 -- row `starts`, before those rows, has every vertex from which the word can be spelled; the step rows and the parent's are empty; and there is
--- room for all edges and for the slots
-pub record NodeStageable (edges slots digits w : List ℕ) (d starts : ℕ) (live : List ℕ) (longest room cnt : ℕ) : Type 0 where
+-- room for all edges; and cnt slots are taken
+pub record NodeStageable (edges slots digits w : List ℕ) (d starts : ℕ) (live : List ℕ) (longest cnt : ℕ) : Type 0 where
   pub grouped : Grouped edges slots
   pub chosen : Chosen digits d longest
   pub sources : Sources edges (word_of digits d) w
@@ -46,12 +46,11 @@ pub record NodeStageable (edges slots digits w : List ℕ) (d starts : ℕ) (liv
   pub spelled : (a t : ℕ) → a < most_vertices → Trail edges a (word_of digits d) t → On w starts a
   pub quiet : Empty w step_rows (most_vertices + most_vertices)
   pub listable : length edges ≤ length live
-  pub count : cnt ≤ room
-  pub there : least_work + room ≤ length w
+  pub taken : HasTaken w cnt
 
 -- the entries of P are staged: the rows before those for one label more are kept, and the step rows and the parent's end empty
-pub record NodeStages (w : List ℕ) (d : ℕ) (P : ℕ → Type 0) (room cnt : ℕ) (w' : List ℕ) (r : ℕ) : Type 0 where
-  pub stages : Stages w (InRows saved_rows (base_of d)) P room cnt w' r
+pub record NodeStages (w : List ℕ) (d : ℕ) (P : ℕ → Type 0) (cnt : ℕ) (w' : List ℕ) (r : Option ℕ) : Type 0 where
+  pub stages : Stages w (InRows saved_rows (base_of d)) P cnt w' r
   pub quiet : Empty w' step_rows (most_vertices + most_vertices)
 
 -- ---- on the way
@@ -70,7 +69,7 @@ pub record Child (digits : List ℕ) (d c : ℕ) (digits' : List ℕ) : Type 0 w
   pub word : word_of digits' (suc d) ≡ suc c ∷ word_of digits d
 
 -- the parent's rows are filled, and the step rows empty
-pub record LeafStageable (edges slots digits w : List ℕ) (d starts : ℕ) (live : List ℕ) (longest room cnt : ℕ) : Type 0 where
+pub record LeafStageable (edges slots digits w : List ℕ) (d starts : ℕ) (live : List ℕ) (longest cnt : ℕ) : Type 0 where
   pub grouped : Grouped edges slots
   pub chosen : Chosen digits d longest
   pub parent : Parent edges (word_of digits d) w
@@ -79,24 +78,23 @@ pub record LeafStageable (edges slots digits w : List ℕ) (d starts : ℕ) (liv
   pub spelled : (a t : ℕ) → a < most_vertices → Trail edges a (word_of digits d) t → On w starts a
   pub quiet : Empty w step_rows most_vertices
   pub listable : length edges ≤ length live
-  pub count : cnt ≤ room
-  pub there : least_work + room ≤ length w
+  pub taken : HasTaken w cnt
 
 -- the entries of P are staged, and the row of label suc c is filled: the parent's rows and those up to it are kept, and the step rows end
 -- empty
-pub record LeafStages (edges digits w : List ℕ) (d c : ℕ) (P : ℕ → Type 0) (room cnt : ℕ) (w' : List ℕ) (r : ℕ) : Type 0 where
-  pub stages : Stages w (InRows parent_rows (base_of d + c)) P room cnt w' r
+pub record LeafStages (edges digits w : List ℕ) (d c : ℕ) (P : ℕ → Type 0) (cnt : ℕ) (w' : List ℕ) (r : Option ℕ) : Type 0 where
+  pub stages : Stages w (InRows parent_rows (base_of d + c)) P cnt w' r
   pub child : ChildRow edges (word_of digits d) w' c (base_of d + c)
   pub quiet : Empty w' step_rows most_vertices
 
--- the same for the first n labels, unless there is no room
-pub record LeavesStage (edges digits w : List ℕ) (d n : ℕ) (P : ℕ → Type 0) (room cnt : ℕ) (w' : List ℕ) (r : ℕ) : Type 0 where
-  pub stages : Stages w (InRows parent_rows (base_of d)) P room cnt w' r
-  pub children : r ≤ room → Children edges (word_of digits d) w' (base_of d) n
+-- the same for the first n labels, if there are slots for all
+pub record LeavesStage (edges digits w : List ℕ) (d n : ℕ) (P : ℕ → Type 0) (cnt : ℕ) (w' : List ℕ) (r : Option ℕ) : Type 0 where
+  pub stages : Stages w (InRows parent_rows (base_of d)) P cnt w' r
+  pub children : OnSome r (Children edges (word_of digits d) w' (base_of d) n)
   pub quiet : Empty w' step_rows most_vertices
 
 -- and with the parent's rows emptied
-pub record LevelStages (edges digits w : List ℕ) (d : ℕ) (P : ℕ → Type 0) (room cnt : ℕ) (w' : List ℕ) (r : ℕ) : Type 0 where
-  pub stages : Stages w (InRows saved_rows (base_of d)) P room cnt w' r
-  pub children : r ≤ room → Children edges (word_of digits d) w' (base_of d) most_label
+pub record LevelStages (edges digits w : List ℕ) (d : ℕ) (P : ℕ → Type 0) (cnt : ℕ) (w' : List ℕ) (r : Option ℕ) : Type 0 where
+  pub stages : Stages w (InRows saved_rows (base_of d)) P cnt w' r
+  pub children : OnSome r (Children edges (word_of digits d) w' (base_of d) most_label)
   pub quiet : Empty w' step_rows (most_vertices + most_vertices)

@@ -9,7 +9,7 @@ ghost use Rattle.model.specs.Computed.Patterns.{own?};
 ghost use Rattle.model.specs.Build.Suffixes.{Leaf, Some, Beyond};
 ghost use Rattle.suffixes.specs.Suffixes.{PatternEntry, word_of, Child, NodeStageable, NodeStages, LeafStageable, LeafStages, LeavesStage, LevelStages};
 
-use model::{MOST_LABEL, MOST_LONGEST, MOST_VERTICES};
+use model::{MOST_LABEL, MOST_LONGEST};
 
 // The place of the last digit.
 const LAST: usize = MOST_LONGEST - 1;
@@ -34,7 +34,8 @@ fn is_own(pattern: &[u8]) -> bool
     length == pattern.len()
 }
 
-// Fills the row of label c + 1, of those for one label more, and stages the entries whose pattern is that label and the word.
+// Fills the row of label c + 1, of those for one label more, and stages, behind the first cnt, the entries whose pattern is that label and the
+// word. Returns how many are staged then, or None if there are more than slots.
 fn leaf(
     edges: &[u32],
     slots: &[usize],
@@ -45,29 +46,28 @@ fn leaf(
     starts: usize,
     live: &mut [u32],
     longest: usize,
-    room: usize,
     cnt: usize,
-) -> usize
-    requires { LeafStageable edges.now slots.now digits w.old d starts live.old longest room cnt × (c < most_label) }
-    ensures { LeafStages edges.now digits w.old d c (Leaf longest (PatternEntry edges.now) (word_of digits d) c) room cnt
+) -> Option<usize>
+    requires { LeafStageable edges.now slots.now digits w.old d starts live.old longest cnt × (c < most_label) }
+    ensures { LeafStages edges.now digits w.old d c (Leaf longest (PatternEntry edges.now) (word_of digits d) c) cnt
         w.new result }
 {
     let row = rows::CHILDREN + MOST_LABEL * d + c;
     let n = steps::gather(steps::labelled(edges, slots, c + 1), w, starts, live);
     steps::sources(&live[..n], w, row);
     if n == 0 {
-        return cnt;
+        return Some(cnt);
     }
     let next = child(digits, d, c);
     let start = LAST - d;
     if is_own(&next[start..]) {
         let code = patterns::code(&next[start..]);
-        return pattern_entries::stage(&live[..n], w, row, code, room, cnt);
+        return pattern_entries::stage(&live[..n], w, row, code, cnt);
     }
-    cnt
+    Some(cnt)
 }
 
-// The same for every label.
+// The same for every label, one after another. Returns as leaf does.
 fn leaves(
     edges: &[u32],
     slots: &[usize],
@@ -77,23 +77,17 @@ fn leaves(
     start: usize,
     live: &mut [u32],
     longest: usize,
-    room: usize,
     cnt: usize,
-) -> usize
-    requires { LeafStageable edges.now slots.now digits w.old d start live.old longest room cnt }
+) -> Option<usize>
+    requires { LeafStageable edges.now slots.now digits w.old d start live.old longest cnt }
     ensures { LeavesStage edges.now digits w.old d most_label
-        (Some most_label (Leaf longest (PatternEntry edges.now) (word_of digits d))) room cnt w.new result }
+        (Some most_label (Leaf longest (PatternEntry edges.now) (word_of digits d))) cnt w.new result }
 {
     let mut n = cnt;
-    let mut c = 0;
-    while c < MOST_LABEL {
-        n = leaf(edges, slots, digits, d, c, w, start, live, longest, room, n);
-        if room < n {
-            return n;
-        }
-        c += 1;
+    for c in 0..MOST_LABEL {
+        n = leaf(edges, slots, digits, d, c, w, start, live, longest, n)?;
     }
-    n
+    Some(n)
 }
 
 // Fills the rows of the word and of one label more, stages the entries with one label before the word, and empties the rows of the word.
@@ -106,16 +100,15 @@ fn level(
     starts: usize,
     live: &mut [u32],
     longest: usize,
-    room: usize,
     cnt: usize,
-) -> usize
-    requires { NodeStageable edges.now slots.now digits w.old d starts live.old longest room cnt }
+) -> Option<usize>
+    requires { NodeStageable edges.now slots.now digits w.old d starts live.old longest cnt }
     ensures { LevelStages edges.now digits w.old d
-        (Some most_label (Leaf longest (PatternEntry edges.now) (word_of digits d))) room cnt w.new result }
+        (Some most_label (Leaf longest (PatternEntry edges.now) (word_of digits d))) cnt w.new result }
 {
     let start = MOST_LONGEST - d;
     parent_rows::fill_parent(edges, slots, &digits[start..], w, live);
-    let n = leaves(edges, slots, digits, d, w, starts, live, longest, room, cnt);
+    let n = leaves(edges, slots, digits, d, w, starts, live, longest, cnt);
     parent_rows::clear_parent(edges, slots, &digits[start..], w);
     n
 }
@@ -130,30 +123,21 @@ pub fn node(
     starts: usize,
     live: &mut [u32],
     longest: usize,
-    room: usize,
     cnt: usize,
-) -> usize
-    requires { NodeStageable edges.now slots.now digits w.old d starts live.old longest room cnt }
-    ensures { NodeStages w.old d (Beyond longest (PatternEntry edges.now) (word_of digits d)) room cnt w.new result }
+) -> Option<usize>
+    requires { NodeStageable edges.now slots.now digits w.old d starts live.old longest cnt }
+    ensures { NodeStages w.old d (Beyond longest (PatternEntry edges.now) (word_of digits d)) cnt w.new result }
 {
-    let mut n = level(edges, slots, digits, d, w, starts, live, longest, room, cnt);
-    if room < n {
-        return n;
-    }
+    let mut n = level(edges, slots, digits, d, w, starts, live, longest, cnt)?;
     if longest <= d + 1 {
-        return n;
+        return Some(n);
     }
-    let mut c = 0;
-    while c < MOST_LABEL {
+    for c in 0..MOST_LABEL {
         let row = rows::CHILDREN + MOST_LABEL * d + c;
-        if rows::next(w, row, 0) < MOST_VERTICES {
+        if rows::next(w, row, 0).is_some() {
             let next = child(digits, d, c);
-            n = node(edges, slots, next, d + 1, w, row, live, longest, room, n);
-            if room < n {
-                return n;
-            }
+            n = node(edges, slots, next, d + 1, w, row, live, longest, n)?;
         }
-        c += 1;
     }
-    n
+    Some(n)
 }

@@ -1,64 +1,52 @@
-use mathlib.Core.Path.{refl, ◌∙◌}
+use mathlib.Core.Path.{sym, ◌∙◌}
 use native.Mathlib.Omega.{arith}
-use Rattle.suffixes.proofs.Noding.{turn_at, going_none, going_skip, going_more, child_node, node_full, node_short, node_over, node_all}
+use Rattle.suffixes.proofs.Noding.{going_none, going_skip, going_more, child_node, node_full, node_short, node_over, node_all}
 use Rattle.suffixes.proofs.+node.Goals as goal
-use Rattle.suffixes.proofs.+node.Goals.{then-next-lt-MOST_VERTICES+else-room-n-2, else-next-lt-MOST_VERTICES}
+use Rattle.suffixes.proofs.+node.Goals.{then-is_some+in_ok-n-2, else-is_some}
 
-pub returns-then-room-n : goal.returns-then-room-n
-returns-then-room-n t c = node_full c.requires c.level-n.ensures c.if-room-n.true
+pub returns-in_err-n : goal.returns-in_err-n
+returns-in_err-n t c = rw c.from_residual.ensures (node_full c.requires (rw c.in_err-n.was at c.level.ensures))
 
 pub returns-then-longest-d : goal.returns-then-longest-d
-returns-then-longest-d t c = node_short c.requires c.level-n.ensures c.if-longest-d.true
+returns-then-longest-d t c = node_short c.requires (rw c.in_ok-n.was at c.level.ensures) c.if-longest-d.true
 
 pub loop-c-init : goal.loop-c-init
-loop-c-init t c =
-    let fits = c.if-room-n.false in
-    record { fits = fits; most = omega arith; long = refl; going = going_none c.requires c.level-n.ensures fits }
+loop-c-init t c = going_none c.requires (rw c.in_ok-n.was at c.level.ensures)
 
-pub node-n-requires : goal.node-n-requires
-node-n-requires t c =
-    let inv = c.loop-c.invariant in
+pub node-requires : goal.node-requires
+node-requires t c =
     let pre = c.requires in
-    let deep = c.if-longest-d.false in (
+    let deep = c.if-longest-d.false in
+    let level = rw c.in_ok-n.was at c.level.ensures in (
       omega (arith, c.decreases, pre.chosen.more, deep),
-      child_node pre c.level-n.ensures c.if-room-n.false inv.going c.loop-c-test.true inv.fits c.child-next.ensures
-          (omega arith) (omega (arith, pre.listable, c.level-n.auto.live, inv.long)) deep,
+      child_node pre level c.loop-c.invariant c.loop-c-test.true c.child-next.ensures (omega arith)
+          (omega (arith, pre.listable, c.level.auto.live, c.loop-c.auto.live)) deep,
     )
 
-pub returns-then-room-n-2 : goal.returns-then-room-n-2
-returns-then-room-n-2 t c =
-    let inv = c.loop-c.invariant in
+pub returns-in_err-n-2 : goal.returns-in_err-n-2
+returns-in_err-n-2 t c =
     let pre = c.requires in
-    let level = c.level-n.ensures in
-    let fits = c.if-room-n.false in
-    let more = going_more pre level fits inv.going c.loop-c-test.true inv.fits c.child-next.ensures (omega arith) c.node-n.ensures in
-    node_over pre level fits more (omega (arith, c.loop-c-test.true)) c.if-room-n-2.true
+    let level = rw c.in_ok-n.was at c.level.ensures in
+    let more = rw c.in_err-n-2.was at c.node.ensures in
+    rw c.from_residual-in_err-n-2.ensures
+    (node_over pre level
+    (going_more pre level c.loop-c.invariant c.loop-c-test.true c.child-next.ensures (omega arith) more)
+    (omega (arith, c.loop-c-test.true)))
 
 pub loop-c-preserved : goal.loop-c-preserved
 loop-c-preserved t c =
     let inv = c.loop-c.invariant in
     let pre = c.requires in
-    let level = c.level-n.ensures in
-    let fits = c.if-room-n.false in
+    let level = rw c.in_ok-n.was at c.level.ensures in
     let here = c.loop-c-test.true in
-    elim c.if-next-lt-MOST_VERTICES.branch [
-      | then-next-lt-MOST_VERTICES+else-room-n-2 x ↦
-          turn_at x.w-is x.live-is x.n-is (record {
-            fits = x.if-room-n-2.false;
-            most = omega (arith, here);
-            long = x.node-n.auto.live ∙ inv.long;
-            going = going_more pre level fits inv.going here inv.fits x.child-next.ensures (omega arith) x.node-n.ensures;
-          })
-      | else-next-lt-MOST_VERTICES x ↦
-          turn_at x.w-is x.live-is x.n-is (record {
-            fits = inv.fits;
-            most = omega (arith, here);
-            long = inv.long;
-            going = going_skip pre level fits inv.going here inv.fits c.next.ensures x.if-next-lt-MOST_VERTICES.false;
-          })
+    elim c.if-is_some.branch [
+      | then-is_some+in_ok-n-2 x ↦
+          let more = rw x.in_ok-n-2.was at x.node.ensures in
+          rw (x.w-is, x.n-is) (going_more pre level inv here x.child-next.ensures (omega arith) more)
+      | else-is_some x ↦ rw (x.w-is, x.n-is) (going_skip pre level inv here _ c.next.ensures (sym c.is_some.ensures ∙ x.if-is_some.false))
     ]
 
 pub returns : goal.returns
 returns t c =
-    let inv = c.loop-c.invariant in
-    node_all c.requires c.level-n.ensures c.if-room-n.false inv.going inv.most c.loop-c-test.false
+    node_all c.requires (rw c.in_ok-n.was at c.level.ensures) c.loop-c.invariant (omega (arith, c.loop-c.auto.c-end))
+    (omega (arith, c.loop-c-test.false))

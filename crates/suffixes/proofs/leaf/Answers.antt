@@ -67,7 +67,7 @@ pub sources-requires : goal.sources-requires
 sources-requires c =
     let pre = c.requires in (
       outgoing pre.0 pre.1 (lists (goal.at.sources-requires c).After-gather-n),
-      record { row = omega (arith, pre.1, pre.0.chosen.more, pre.0.chosen.most); long = omega (arith, pre.0.there) },
+      record { row = omega (arith, pre.1, pre.0.chosen.more, pre.0.chosen.most); long = omega (arith, pre.0.taken) },
     )
 
 pub returns-then-n-eq0 : goal.returns-then-n-eq0

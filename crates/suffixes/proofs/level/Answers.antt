@@ -12,9 +12,7 @@ leaves-n-requires c =
     leaf_stageable pre c.fill_parent.ensures (omega (arith, pre.listable, c.fill_parent.auto.live))
 
 pub clear_parent-requires : goal.clear_parent-requires
-clear_parent-requires c =
-    parent_clearable c.requires c.fill_parent.ensures c.leaves-n.ensures
+clear_parent-requires c = parent_clearable c.requires c.fill_parent.ensures c.leaves-n.ensures
 
 pub returns : goal.returns
-returns c =
-    level_stages c.requires c.fill_parent.ensures c.leaves-n.ensures c.clear_parent.ensures
+returns c = level_stages c.requires c.fill_parent.ensures c.leaves-n.ensures c.clear_parent.ensures
