@@ -1,29 +1,20 @@
 -- Rows filled, one for each vertex; one row with where edges start; and rows emptied.
 use mathlib.Core.Path.{◌≡◌, sym, ◌∙◌}
 use mathlib.Core.Logic.{◌⊎◌, inl, inr, ⊎_elim, ⊎_map, ◌↔◌}
-use mathlib.Core.List.Memᴰ
 use mathlib.Core.List.{List}
 use Prim.Native.Nat.{ℕ, ◌+◌, ◌-◌, ◌≤◌, ◌<◌}
 use native.Mathlib.Omega.{arith}
 use native.Mathlib.Decide.{ℕ_discrete}
 use lib.ListN.{length, get_or, take, drop}
-use lib.Seq.{take_all}
 use Rattle.model.specs.Limits.{most_vertices}
 use Rattle.model.specs.Edges.{from_of, to_of}
-use Rattle.rows.specs.Rows.{cell, On, KeepsRows, InRows, Empty, Becomes}
-use Rattle.rows.proofs.Rows.{row_as, becomes_as, keeps_none, keeps_then, keeps_cell, keeps_row}
-use Rattle.steps.specs.Filling.{Clears, FillsRows, Outgoing, Starting, LeadsTo, LeadsInto, RowsFillable, EndsFillable, SourcesClearable}
-use Rattle.steps.proofs.Kept.{within_at, keeps_one}
+use Rattle.rows.specs.Rows.{cell, On, KeepsRows, InRows, Becomes}
+use Rattle.rows.proofs.Rows.{row_as, becomes_as, keeps_then, keeps_cell, keeps_row}
+use Rattle.steps.specs.Filling.{Clears, FillsRows, Outgoing, Starting, LeadsTo, LeadsInto, RowsFillable, EndsFillable}
+use Rattle.steps.proofs.Kept.{keeps_one}
 use Rattle.steps.proofs.Passing.{from_vertex, starting_more, leads_more, leads_into_more, starting_later, none_left}
 
 module _ {base : ℕ} {P : ℕ → ℕ → Type 0} {w : List ℕ} where
-  pub fills_none : Empty w base most_vertices → ((a t : ℕ) → P a t → ⊥) → FillsRows base P w w
-  fills_none e n =
-      record {
-        keeps = keeps_none;
-        rows = λ a h. record { only = λ t k o. absurd (e.none (base + a) t (within_at a h) k o); all = λ t k p. absurd (n a t p) };
-      }
-
   -- row s gains the vertices of Q
   pub fills_more : {w' w'' : List ℕ} {s : ℕ} {Q : ℕ → Type 0} {R : ℕ → ℕ → Type 0} → FillsRows base P w w' → s < most_vertices
       → Becomes w' w'' (base + s) (λ t. On w' (base + s) t ⊎ Q t)
@@ -47,9 +38,6 @@ module _ {base : ℕ} {P : ℕ → ℕ → Type 0} {w : List ℕ} where
 
 -- ---- each vertex alone, for the vertices below a number
 
-pub identity_none : {w : List ℕ} {base : ℕ} → Empty w base most_vertices → FillsRows base (λ a t. (a < 0) × (t ≡ a)) w w
-identity_none e = fills_none e (λ a t p. absurd (omega (arith, p.0)))
-
 pub identity_more : {w w' w'' : List ℕ} {base n : ℕ} → FillsRows base (λ a t. (a < n) × (t ≡ a)) w w' → n < most_vertices
     → Becomes w' w'' (base + n) (λ t. On w' (base + n) t ⊎ (t ≡ n)) → FillsRows base (λ a t. (a < n + 1) × (t ≡ a)) w w''
 identity_more {n = n} g h b = fills_more g h b (λ a t _ _. (
@@ -63,9 +51,6 @@ identity_all g h = fills_as g (λ a t k. (λ p. p.1, λ e. (omega arith, e)))
 -- ---- by the first i edges of a list
 
 module _ {edges w : List ℕ} {from to : ℕ} (s : RowsFillable edges w from to) where
-  pub into_none : FillsRows to (LeadsInto (take 0 edges) w from) w w
-  into_none = fills_none s.empty (λ a t p. Memᴰ.not-nil p.listed)
-
   pub into_more : {w' w'' : List ℕ} {i : ℕ} → i < length edges → FillsRows to (LeadsInto (take i edges) w from) w w'
       → let x = get_or edges i 0 in let r = to + from_of x in Becomes w' w'' r (λ t. On w' r t ⊎ On w' (from + to_of x) t)
       → FillsRows to (LeadsInto (take (i + 1) edges) w from) w w''
@@ -84,26 +69,14 @@ module _ {edges w : List ℕ} {from to : ℕ} (s : RowsFillable edges w from to)
       joined : Becomes w' w'' (to + from_of x) (λ t. On w' (to + from_of x) t ⊎ On w (from + to_of x) t)
       joined = becomes_as b (λ t k. (⊎_map (λ o. o) (λ o. sym (kept t k) ∙ o), ⊎_map (λ o. o) (λ o. kept t k ∙ o)))
 
-  pub into_all : {w' : List ℕ} {i : ℕ} → length edges ≤ i → FillsRows to (LeadsInto (take i edges) w from) w w' → FillsRows to (LeadsInto edges w from) w w'
-  into_all {i = i} h g = rw (take_all i edges h) at g
-
 module _ {edges w : List ℕ} {to : ℕ} (s : EndsFillable edges w to) where
-  pub ends_none : FillsRows to (LeadsTo (take 0 edges)) w w
-  ends_none = fills_none s.empty (λ a t p. Memᴰ.not-nil p.listed)
-
   pub ends_more : {w' w'' : List ℕ} {i : ℕ} → i < length edges → FillsRows to (LeadsTo (take i edges)) w w'
       → let x = get_or edges i 0 in let r = to + from_of x in Becomes w' w'' r (λ t. On w' r t ⊎ (t ≡ to_of x)) → FillsRows to (LeadsTo (take (i + 1) edges)) w w''
   ends_more {i = i} h g b = fills_more g (from_vertex edges i h s.outgoing) b (λ a t _ _. leads_more edges i h)
 
-  pub ends_all : {w' : List ℕ} {i : ℕ} → length edges ≤ i → FillsRows to (LeadsTo (take i edges)) w w' → FillsRows to (LeadsTo edges) w w'
-  ends_all {i = i} h g = rw (take_all i edges h) at g
-
 -- ---- one row: where the first i edges of a list start
 
 module _ (edges : List ℕ) {w w' : List ℕ} {r : ℕ} where
-  pub starts_none : Becomes w w' r (λ _. ⊥) → Becomes w' w' r (Starting (take 0 edges))
-  starts_none b = record { keeps = keeps_none; row = row_as (λ a _. (λ n. absurd n, λ s. Memᴰ.not-nil s.listed)) b.row }
-
   pub starts_more : (i : ℕ) → i < length edges → Becomes w w' r (Starting (take i edges))
       → {w'' : List ℕ} → Becomes w' w'' r (λ a. On w' r a ⊎ (a ≡ from_of (get_or edges i 0))) → Becomes w w'' r (Starting (take (i + 1) edges))
   starts_more i h g b =
@@ -115,10 +88,6 @@ module _ (edges : List ℕ) {w w' : List ℕ} {r : ℕ} where
         )) b.row;
       }
 
-  pub starts_all : (i : ℕ) → length edges ≤ i → Becomes w w' r (λ _. ⊥)
-      → {w'' : List ℕ} → Becomes w' w'' r (Starting (take i edges)) → Becomes w w'' r (Starting edges)
-  starts_all i h b g = record { keeps = keeps_then b.keeps g.keeps; row = rw (take_all i edges h) at g.row }
-
 -- ---- the rows of the vertices where edges start, emptied
 
 -- of the rows from base on, only those of vertices where an edge from number i on starts have any vertex
@@ -127,9 +96,6 @@ pub record Emptying (edges w : List ℕ) (base : ℕ) (w' : List ℕ) (i : ℕ) 
   pub sources : (a t : ℕ) → a < most_vertices → t < most_vertices → On w' (base + a) t → Starting (drop i edges) a
 
 module _ {edges w : List ℕ} {base : ℕ} where
-  pub emptying_none : SourcesClearable edges w base → Emptying edges w base w 0
-  emptying_none s = record { keeps = keeps_none; sources = s.sources }
-
   module _ {w' : List ℕ} {i : ℕ} (g : Emptying edges w base w' i) where
     pub emptying_more : {w'' : List ℕ} → Outgoing edges → i < length edges → Becomes w' w'' (base + from_of (get_or edges i 0)) (λ _. ⊥)
         → Emptying edges w base w'' (i + 1)

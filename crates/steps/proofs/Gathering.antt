@@ -1,5 +1,5 @@
 -- The edges that end in a row, gathered at the front of a memory one after another.
-use mathlib.Core.Path.{◌≡◌, refl, subst, ◌∙◌}
+use mathlib.Core.Path.{◌≡◌, subst, ◌∙◌}
 use mathlib.Core.Logic.{⊎_elim}
 use mathlib.Core.List.Memᴰ
 use mathlib.Core.List.{List, [], ◌∷◌, ◌++◌}
@@ -8,12 +8,11 @@ use native.Mathlib.Omega.{arith}
 use native.Mathlib.Nat.{le_refl}
 use native.Mathlib.Numerals.{add-one}
 use lib.ListN.{length, get_or, set, take, length-set}
-use lib.Seq.{take_all, take-suc, take-set-le, get_or-set_same}
+use lib.Seq.{take-suc, take-set-le, get_or-set_same}
 use Rattle.model.specs.Lists.{◌∈◌}
 use Rattle.model.specs.Edges.{to_of}
 use Rattle.rows.specs.Rows.{cell, On}
 use Rattle.rows.proofs.Rows.{cell_cases}
-use Rattle.steps.specs.Filling.{Gathers}
 use Rattle.steps.proofs.Passing.{before_or_last, passed, newly, passed_or_new}
 
 -- the first n of live' are those of the first i edges that end in row `starts`
@@ -25,19 +24,7 @@ pub record Gathering (edges w : List ℕ) (starts : ℕ) (live live' : List ℕ)
   pub all : (x : ℕ) → x ∈ take i edges → On w starts (to_of x) → x ∈ take n live'
 
 module _ {edges w : List ℕ} {starts : ℕ} {live : List ℕ} where
-  pub gathering_none : Gathering edges w starts live live 0 0
-  gathering_none =
-      record { len = refl; most = omega arith; fits = omega arith; only = λ x m. absurd (Memᴰ.not-nil m); all = λ x m. absurd (Memᴰ.not-nil m) }
-
   module _ {live' : List ℕ} {i n : ℕ} (g : Gathering edges w starts live live' i n) where
-    pub gathering_all : length edges ≤ i → Gathers edges w starts live' n
-    gathering_all h =
-        record {
-          fits = omega (arith, g.fits, g.most);
-          only = λ x m. rw (take_all i edges h) at (g.only x m);
-          all = λ x m. g.all x (rw (take_all i edges h) m);
-        }
-
     module _ (room : length edges ≤ length live) (h : i < length edges) where
       -- the next edge, written behind those gathered
       abbrev x : ℕ

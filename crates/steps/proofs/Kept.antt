@@ -5,7 +5,7 @@ use Prim.Native.Nat.{ℕ, ◌+◌, ◌<◌}
 use native.Mathlib.Omega.{arith}
 use native.Mathlib.Decide.{ℕ_discrete}
 use Rattle.rows.specs.Rows.{KeepsRows, InRows, Becomes}
-use Rattle.rows.proofs.Rows.{keeps_none, keeps_as, keeps_then, keeps_cell}
+use Rattle.rows.proofs.Rows.{keeps_as, keeps_then, keeps_cell}
 use Rattle.steps.specs.Filling.{Clears}
 
 pub within_at : {base n : ℕ} (c : ℕ) → c < n → InRows base (base + n) (base + c)
@@ -16,9 +16,6 @@ pub keeps_one : {w w' : List ℕ} {base n c : ℕ} {P : ℕ → Type 0} → c < 
 keeps_one {c = c} h b = keeps_as (λ r x e. x (rw e (within_at c h))) b.keeps
 
 -- ---- rows emptied one after another
-
-pub clears_none : {w : List ℕ} {base : ℕ} → Clears w w base 0
-clears_none = record { keeps = keeps_none; empty = record { none = λ r j a. absurd (omega (arith, a.least, a.most)) } }
 
 pub clears_more : {w w' w'' : List ℕ} {base n : ℕ} → Clears w w' base n → Becomes w' w'' (base + n) (λ _. ⊥) → Clears w w'' base (n + 1)
 clears_more {w} {w'} {w''} {base} {n} h b =

@@ -1,5 +1,5 @@
 -- The edges of a label, and those of them that end in a row.
-use mathlib.Core.Path.{◌≡◌, ap, subst}
+use mathlib.Core.Path.{◌≡◌, subst}
 use mathlib.Core.Logic.{◌↔◌}
 use mathlib.Core.List.Memᴰ
 use mathlib.Core.List.{List}
@@ -26,21 +26,6 @@ pub record Via (edges w : List ℕ) (base a c t : ℕ) : Type 0 where
   pub small : b < most_vertices
   pub stands : edge_number a c b ∈ edges
   pub on : On w (base + b) t
-
--- ---- the slots of label c
-
-module _ {edges slots : List ℕ} (g : Grouped edges slots) (c : ℕ) where
-  pub section_rises : 1 ≤ c → c ≤ most_label → get_or slots (c - 1) 0 ≤ get_or slots c 0
-  section_rises l m = let e : suc (c - 1) ≡ c = omega arith in rw e at (g.rises (c - 1) (omega arith))
-
-  pub section_most : c ≤ most_label → get_or slots c 0 ≤ length edges
-  section_most m = g.most c m
-
-pub section_label : (edges slots : List ℕ) (c : ℕ) → 1 ≤ c
-    → take (get_or slots c 0 - get_or slots (c - 1) 0) (drop (get_or slots (c - 1) 0) edges) ≡ section edges slots (c - 1)
-section_label edges slots c l =
-    let e : c ≡ suc (c - 1) = omega arith in
-    ap (λ (k : ℕ). take (get_or slots k 0 - get_or slots (c - 1) 0) (drop (get_or slots (c - 1) 0) edges)) e
 
 -- ---- the edges of label suc c
 

@@ -8,17 +8,15 @@ ghost use Rattle.rows.specs.Region.{work_rows};
 ghost use Rattle.rows.specs.Rows.{Has, Becomes};
 ghost use Rattle.steps.specs.Filling.{Clears, IdentityFillable, FillsRows, Outgoing, Starting, LeadsTo, LeadsInto, Gatherable, Gathers, RowsFillable, EndsFillable, SourcesClearable};
 
-use model::{FROM_UNIT, LABEL_UNIT, MOST_VERTICES};
+use model::{Edge, MOST_VERTICES};
 
 // Empties the n rows from `base` on.
 pub fn clear_rows(w: &mut [u64], base: usize, n: usize)
     requires { (base + n ≤ work_rows) × (least_work ≤ length w.old) }
     ensures { Clears w.old w.new base n }
 {
-    let mut i = 0;
-    while i < n {
+    for i in 0..n {
         rows::clear(w, base + i);
-        i += 1;
     }
 }
 
@@ -27,10 +25,8 @@ pub fn fill_identity(w: &mut [u64], base: usize)
     requires { IdentityFillable w.old base }
     ensures { FillsRows base (λ a t. t ≡ a) w.old w.new }
 {
-    let mut a = 0;
-    while a < MOST_VERTICES {
+    for a in 0..MOST_VERTICES {
         rows::mark(w, base + a, a);
-        a += 1;
     }
 }
 
@@ -41,12 +37,9 @@ pub fn gather(edges: &[u32], w: &[u64], starts: usize, live: &mut [u32]) -> usiz
     ensures { Gathers edges.now w.now starts live.new result }
 {
     let mut n = 0;
-    let mut i = 0;
-    while i < edges.len() {
-        let x = edges[i];
+    for &x in edges {
         live[n] = x;
-        n += rows::bit(w, starts, (x % LABEL_UNIT) as usize) as usize;
-        i += 1;
+        n += rows::bit(w, starts, Edge::from(x).to as usize) as usize;
     }
     n
 }
@@ -57,10 +50,8 @@ pub fn sources(edges: &[u32], w: &mut [u64], r: usize)
     ensures { Becomes w.old w.new r (Starting edges.now) }
 {
     rows::clear(w, r);
-    let mut i = 0;
-    while i < edges.len() {
-        rows::mark(w, r, (edges[i] / FROM_UNIT) as usize);
-        i += 1;
+    for &x in edges {
+        rows::mark(w, r, Edge::from(x).from as usize);
     }
 }
 
@@ -70,12 +61,10 @@ pub fn fill(edges: &[u32], w: &mut [u64], from: usize, to: usize)
     requires { RowsFillable edges.now w.old from to }
     ensures { FillsRows to (LeadsInto edges.now w.old from) w.old w.new }
 {
-    let mut i = 0;
-    while i < edges.len() {
-        let x = edges[i];
-        let r = to + (x / FROM_UNIT) as usize;
-        rows::union(w, r, r, from + (x % LABEL_UNIT) as usize);
-        i += 1;
+    for &x in edges {
+        let edge = Edge::from(x);
+        let r = to + edge.from as usize;
+        rows::union(w, r, r, from + edge.to as usize);
     }
 }
 
@@ -84,11 +73,9 @@ pub fn fill_ends(edges: &[u32], w: &mut [u64], to: usize)
     requires { EndsFillable edges.now w.old to }
     ensures { FillsRows to (LeadsTo edges.now) w.old w.new }
 {
-    let mut i = 0;
-    while i < edges.len() {
-        let x = edges[i];
-        rows::mark(w, to + (x / FROM_UNIT) as usize, (x % LABEL_UNIT) as usize);
-        i += 1;
+    for &x in edges {
+        let edge = Edge::from(x);
+        rows::mark(w, to + edge.from as usize, edge.to as usize);
     }
 }
 
@@ -97,10 +84,8 @@ pub fn clear_sources(edges: &[u32], w: &mut [u64], base: usize)
     requires { SourcesClearable edges.now w.old base }
     ensures { Clears w.old w.new base most_vertices }
 {
-    let mut i = 0;
-    while i < edges.len() {
-        rows::clear(w, base + (edges[i] / FROM_UNIT) as usize);
-        i += 1;
+    for &x in edges {
+        rows::clear(w, base + Edge::from(x).from as usize);
     }
 }
 

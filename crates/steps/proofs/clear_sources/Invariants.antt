@@ -1,11 +1,6 @@
--- `steps::clear_sources` meets its contract: only rows of vertices where an edge from number i on starts have any vertex.
-use Prim.Native.Nat.{◌-◌}
-use lib.ListN.{length}
+-- `steps::clear_sources` meets its contract: only rows of vertices where an edge that is not passed starts have any vertex.
 use Rattle.steps.proofs.Filling.{Emptying}
 use Rattle.steps.proofs.clear_sources.Given as goal
 
-abbrev pub invariant-loop-i : goal.invariant-loop-i
-invariant-loop-i l = Emptying l.edges l.initial.w l.base l.w l.i
-
-abbrev pub decreases-loop-i : goal.decreases-loop-i
-decreases-loop-i l = length l.edges - l.i
+abbrev pub invariant-loop-x : goal.invariant-loop-x
+invariant-loop-x l = Emptying l.edges l.initial.w l.base l.w l.x-index

@@ -1,11 +1,7 @@
--- `steps::fill` meets its contract: the rows from `to` on are what the first i edges lead into.
-use Prim.Native.Nat.{◌-◌}
-use lib.ListN.{length, take}
+-- `steps::fill` meets its contract: the rows from `to` on are what the edges passed lead into.
+use lib.ListN.{take}
 use Rattle.steps.specs.Filling.{FillsRows, LeadsInto}
 use Rattle.steps.proofs.fill.Given as goal
 
-abbrev pub invariant-loop-i : goal.invariant-loop-i
-invariant-loop-i l = FillsRows l.to (LeadsInto (take l.i l.edges) l.initial.w l.from) l.initial.w l.w
-
-abbrev pub decreases-loop-i : goal.decreases-loop-i
-decreases-loop-i l = length l.edges - l.i
+abbrev pub invariant-loop-x : goal.invariant-loop-x
+invariant-loop-x l = FillsRows l.to (LeadsInto (take l.x-index l.edges) l.initial.w l.from) l.initial.w l.w
