@@ -9,20 +9,14 @@ use native.Mathlib.Numerals.{add-one}
 use native.Mathlib.Omega.{arith}
 use native.Mathlib.Decide.{dec_lt}
 use lib.ListN.{length, get_or}
-use Rattle.model.specs.Limits.{most_vertices, from_unit, label_unit}
+use Rattle.model.specs.Limits.{most_vertices, label_unit}
+use Rattle.model.specs.Lists.{Rising}
 use Rattle.model.specs.States.{Leads, vertex_of, used_of}
 use Rattle.model.proofs.Lists.{get_d_in, in_get_d}
-use Rattle.frontier.specs.Work.{Ahead, Grown, LedTo, queue}
-use Rattle.frontier.specs.Search.{Short}
+use Rattle.frontier.specs.Work.{Grown, LedTo, queue}
+use Rattle.frontier.specs.Search.{Short, key_of, base_of}
 use Rattle.frontier.proofs.Grow.{grown_none, grown_then, grown_as}
-
--- the least number of an edge of the next label from state x
-abbrev pub key_of : List ℕ → ℕ → ℕ
-key_of l x = vertex_of x * from_unit + get_or l (used_of x) 0 * label_unit
-
--- the least state with one label more
-abbrev pub base_of : List ℕ → ℕ → ℕ
-base_of l x = (used_of x + 1) % length l * most_vertices
+use Rattle.frontier.proofs.Spreading.{Ahead, rest, run_all}
 
 module _ (edges l : List ℕ) (x y : ℕ) where
   pub ahead_leads : Ahead edges (length edges) (key_of l x) (base_of l x) y → Leads edges l x y
@@ -45,6 +39,13 @@ module _ (edges l : List ℕ) (x y : ℕ) where
   -- a state that is led to has its position in the pattern
   pub leads_fit : Short l → Leads edges l x y → y < length l * most_vertices
   leads_fit s h = let p : used_of y ≡ suc (used_of x) % length l = h.next in omega (arith, mod-lt (suc (used_of x)) {m = length l} s.least)
+
+-- a branch is over, so all that the state leads to is reached
+pub branch_all : {edges l : List ℕ} {x key base n i : ℕ} → Rising edges → key ≡ key_of l x → base ≡ base_of l x → n ≤ length edges → i ≤ length (rest edges n)
+    → (i < length (rest edges n) → key + label_unit ≤ get_or (rest edges n) i 0)
+    → {w w' : List ℕ} {t t' : ℕ} → Grown w t w' t' (Ahead edges (n + i) key base) → Grown w t w' t' (Leads edges l x)
+branch_all {edges} {l} {x} {key} {base} {n} s k b h i e g =
+    grown_as (rw (k, b) at (run_all edges key base n s h i e g)) (ahead_leads edges l x) (leads_ahead edges l x)
 
 module _ (edges l : List ℕ) (lo : ℕ) where
   pub next_none : (w₀ w : List ℕ) (n : ℕ) → Grown w n w n (LedTo edges l w₀ lo lo)

@@ -1,7 +1,13 @@
 -- What a search over states needs.
-use Rattle.std.specs.Prelude.{◌≡◌, true, List, ℕ, ◌≤◌, ◌<◌, length}
-use Rattle.model.specs.Limits.{most_vertices, most_longest}
-use Rattle.model.specs.Lists.{◌∈◌, Rising}
+use mathlib.Core.Path.{refl, ap₂}
+use mathlib.Core.List.{[], ◌∷◌}
+use mathlib.Core.Bool.{Bool-set}
+use native.Mathlib.Nat.{ℕ_set}
+use Rattle.std.specs.Coded.{le_prop}
+use Rattle.std.specs.Prelude.{◌≡◌, true, List, ℕ, ◌+◌, ◌*◌, ◌%◌, ◌≤◌, ◌<◌, length, get_or}
+use Rattle.model.specs.Limits.{most_vertices, most_longest, from_unit, label_unit}
+use Rattle.model.specs.States.{vertex_of, used_of}
+use Rattle.model.specs.Lists.{◌∈◌, none, next, Rising}
 use Rattle.model.specs.Computed.Edges.{edge?}
 
 -- a pattern has 1 to 4 labels
@@ -17,3 +23,21 @@ pub record Searchable (vertices : ℕ) (edges l : List ℕ) (s t : ℕ) : Type 0
   pub short : Short l
   pub start : s < vertices
   pub destination : t < vertices
+
+-- the least number of an edge of the next label from state x, and the least state that such an edge may lead to
+abbrev pub key_of : List ℕ → ℕ → ℕ
+key_of l x = vertex_of x * from_unit + get_or l (used_of x) 0 * label_unit
+
+abbrev pub base_of : List ℕ → ℕ → ℕ
+base_of l x = (used_of x + 1) % length l * most_vertices
+
+-- there is at most one proof of each
+below_prop : (x : ℕ) (l : List ℕ) → IsProp ((z : ℕ) → z ∈ l → x < z)
+below_prop x l = Prim.hlevel le_prop
+
+pub rising_prop : (l : List ℕ) → IsProp (Rising l)
+rising_prop [] none none = refl
+rising_prop (x ∷ l) (next h s) (next k t) = ap₂ next (below_prop x l h k) (rising_prop l s t)
+
+pub searchable_prop : (vertices : ℕ) (edges l : List ℕ) (s t : ℕ) → IsProp (Searchable vertices edges l s t)
+searchable_prop vertices edges l s t = Prim.hlevel (le_prop, rising_prop, Bool-set, ℕ_set)

@@ -1,7 +1,7 @@
 -- Work memory of the level search: numbers 0 to 1,023 hold 1 at each state that is in levels 1 to i, and from number 1,024 on stand the
 -- states in the order in which they were reached, the start first.
 use Rattle.std.specs.Prelude.{◌≡◌, Bool, true, false, List, [], ◌∷◌, ◌⊎◌, ℕ, ◌+◌, ◌*◌, ◌≤◌, ◌<◌, length, get_or, take, eqb}
-use Rattle.model.specs.Limits.{most_vertices, label_unit, least_work}
+use Rattle.model.specs.Limits.{most_vertices, least_work}
 use Rattle.model.specs.States.{Leads}
 use Rattle.model.specs.Computed.Levels.{most_states}
 
@@ -52,14 +52,6 @@ pub record Grown (w : List ℕ) (n : ℕ) (w' : List ℕ) (n' : ℕ) (P : ℕ �
   pub new : (k : ℕ) → n ≤ k → k < n' → get_or w (queue w' k) 0 ≡ 1 → ⊥
   pub by : (k : ℕ) → n ≤ k → k < n' → P (queue w' k)
   pub found : (y : ℕ) → y < most_states → P y → (get_or w y 0 ≡ 1 → ⊥) → At w' n n' y
-
--- y is base + to for an edge key + to among the first i, to below 256
-pub record Ahead (edges : List ℕ) (i key base y : ℕ) : Type 0 where
-  pub j : ℕ
-  pub early : j < i
-  pub least : key ≤ get_or edges j 0
-  pub most : get_or edges j 0 < key + label_unit
-  pub is : y + key ≡ base + get_or edges j 0
 
 -- y is led to from a state that stands in the queue from lo up to hi
 pub record LedTo (edges l w : List ℕ) (lo hi y : ℕ) : Type 0 where
