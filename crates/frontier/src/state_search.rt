@@ -8,6 +8,7 @@ ghost use Rattle.frontier.specs.Search.{Searchable, searchable_prop, key_of, bas
 use model::{FROM_UNIT, LABEL_UNIT, MOST_VERTICES};
 
 // A search from a vertex for another, by a pattern, over rising edges; and for each vertex the slot where its edges start.
+#[derive(Drop)]
 pub struct StateSearch<'a> {
     pub vertices: u32,
     pub edges: &'a [u32],

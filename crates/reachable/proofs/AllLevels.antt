@@ -8,12 +8,11 @@ use native.Mathlib.Decide.{ℕ_discrete}
 use lib.ListN.{length, get_or, set}
 use lib.Seq.{get_or-set_same, get_or-set_other}
 use lib.Dec.{eqb}
-use Rattle.model.specs.Limits.{most_vertices}
 use Rattle.model.specs.Lists.{◌∈◌}
 use Rattle.model.specs.Tables.{Tabulates}
 use Rattle.model.specs.Walks.{Runs}
 use Rattle.model.specs.Computed.Edges.{bare}
-use Rattle.model.specs.Computed.Levels.{level, runs?}
+use Rattle.model.specs.Computed.Levels.{level}
 use Rattle.model.proofs.Tests.{Tests, test_agree, test_map, test_eq}
 use Rattle.model.proofs.Levels.{Met, level_iff, level_runs, level_all}
 use Rattle.model.proofs.Search.{test_runs}
@@ -28,7 +27,7 @@ module _ (vertices : ℕ) (edges l : List ℕ) (s : ℕ) where
     pub c : ℕ
     pub stands : LevelStands vertices edges l s c w lo hi
 
-  module _ (p : Searchable vertices edges l s s) {w : List ℕ} {lo hi : ℕ} (f : Flooding w lo hi) where
+  module _ {d : ℕ} (p : Searchable vertices edges l s d) {w : List ℕ} {lo hi : ℕ} (f : Flooding w lo hi) where
     pub flood_on : {w' : List ℕ} {end : ℕ} → Grown w hi w' end (LedTo edges l w lo hi) → Flooding w' hi end
     flood_on g = record { c = suc f.c; stands = stands_next vertices edges l s p f.stands g }
 
@@ -69,8 +68,3 @@ tabulates_more {v} {table} {test} h t = record {
     | no d ↦ get_or-set_other table v u (test v) false d ∙ t.each u (omega arith)
   ];
 }
-
--- the marks of work memory, once all levels are built
-pub flooded_table : {vertices s : ℕ} {edges l w : List ℕ} {table : List Bool} → Searchable vertices edges l s s → Flooded vertices edges l s w
-    → Tabulates most_vertices table (λ v. eqb (get_or w v 0) 1) → Tabulates vertices table (λ t. runs? (bare vertices edges) l s t)
-flooded_table p f t = record { each = λ v h. t.each v (omega (arith, p.vertices_small)) ∙ f.is v h }

@@ -8,22 +8,18 @@ ghost use Rattle.frontier.specs.Work.{Unmarked};
 ghost use Rattle.frontier.specs.Search.{Searchable};
 ghost use Rattle.reachable.specs.Reached.{Flooded, TellsFrom};
 
+use frontier::StateSearch;
 use model::MOST_VERTICES;
 
 // All levels, over work memory in which no state is marked: ends with a mark for every state that is met.
-fn flood(vertices: u32, edges: &[u32], pattern: &[u8], s: u32, work: &mut [u64])
-    requires searchable { Searchable vertices edges.now pattern.now s s }
-    requires unmarked { Unmarked work.old }
-    ensures { Flooded vertices edges.now pattern.now s work.new }
+fn flood(search: &StateSearch, work: &mut [u64])
+    requires { Unmarked work.old }
+    ensures { Flooded search.now.vertices search.now.edges.now search.now.pattern.now search.now.start work.new }
 {
-    let slots = edges::first_slots(vertices, edges);
-    work[frontier::QUEUE] = s as u64;
-    let mut lo = 0;
-    let mut hi = 1;
-    while lo < hi {
-        let end = frontier::next_level(edges, &slots, pattern, work, lo, hi);
-        lo = hi;
-        hi = end;
+    work[frontier::QUEUE] = u64::from(search.start);
+    let mut level = 0..1;
+    while !level.is_empty() {
+        level = frontier::next_level(search, work, level);
     }
 }
 
@@ -33,10 +29,8 @@ fn marked(work: &[u64]) -> [bool; MOST_VERTICES]
     ensures { Tabulates most_vertices result (λ v. eqb (get_or work.now v 0) 1) }
 {
     let mut table = [false; MOST_VERTICES];
-    let mut v = 0;
-    while v < MOST_VERTICES {
+    for v in 0..MOST_VERTICES {
         table[v] = work[v] == 1;
-        v += 1;
     }
     table
 }
@@ -52,7 +46,8 @@ pub fn reached(
     requires { Searchable vertices edges.now pattern.now s s × (least_work ≤ length work.old) }
     ensures { TellsFrom vertices edges.now pattern.now s result }
 {
-    memory::clear_u64(&mut work[..frontier::QUEUE]);
-    flood(vertices, edges, pattern, s, work);
+    let search = StateSearch::new(vertices, edges, pattern, s, s);
+    work[..frontier::QUEUE].fill(0);
+    flood(&search, work);
     marked(work)
 }

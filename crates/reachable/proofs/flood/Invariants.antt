@@ -1,14 +1,12 @@
 -- `reachable::flood` meets its contract: work memory stands at some level, and when that level is empty all are built.
-use mathlib.Core.Path.{◌≡◌}
 use Prim.Native.Nat.{suc, ◌-◌}
-use lib.ListN.{length}
 use Rattle.model.specs.Computed.Levels.{most_states}
 use Rattle.reachable.proofs.AllLevels.{Flooding}
 use Rattle.reachable.proofs.flood.Given as goal
 
-abbrev pub invariant-loop-lo : goal.invariant-loop-lo
-invariant-loop-lo l = Flooding l.vertices l.edges l.pattern l.s l.work l.lo l.hi × (length l.work ≡ length l.initial.work)
+abbrev pub invariant-loop-level : goal.invariant-loop-level
+invariant-loop-level l = Flooding l.search.vertices l.search.edges.now l.search.pattern.now l.search.start l.work l.level.start l.level.end
 
 -- the queue has at most 1,025 states
-abbrev pub decreases-loop-lo : goal.decreases-loop-lo
-decreases-loop-lo l = suc most_states - l.lo
+abbrev pub decreases-loop-level : goal.decreases-loop-level
+decreases-loop-level l = suc most_states - l.level.start

@@ -1,6 +1,5 @@
 -- `reachable::marked` meets its contract: the marks of the vertices below v are written.
 use mathlib.Core.Path.{◌≡◌}
-use Prim.Native.Nat.{◌-◌, ◌≤◌}
 use lib.ListN.{length, get_or}
 use lib.Dec.{eqb}
 use Rattle.model.specs.Limits.{most_vertices}
@@ -8,7 +7,4 @@ use Rattle.model.specs.Tables.{Tabulates}
 use Rattle.reachable.proofs.marked.Given as goal
 
 abbrev pub invariant-loop-v : goal.invariant-loop-v
-invariant-loop-v l = (l.v ≤ most_vertices) × ((length l.table ≡ most_vertices) × Tabulates l.v l.table (λ u. eqb (get_or l.work u 0) 1))
-
-abbrev pub decreases-loop-v : goal.decreases-loop-v
-decreases-loop-v l = most_vertices - l.v
+invariant-loop-v l = (length l.table ≡ most_vertices) × Tabulates l.v l.table (λ u. eqb (get_or l.work u 0) 1)
