@@ -48,16 +48,16 @@ module _ (vertices : ℕ) (edges l : List ℕ) (s : ℕ) where
       pub built_yes : get_or w' t 0 ≡ 1 → Yes (c + 1) ≡ found_by vertices edges l s t limit
       built_yes e = ap Yes (add-one c) ∙ sym (so_far' ∙ reply_yes (bare vertices edges) l s t _ c (in_new e))
 
-      pub built_no : end ≡ hi → No (c + 1) ≡ found_by vertices edges l s t limit
+      pub built_no : end ≤ hi → No (c + 1) ≡ found_by vertices edges l s t limit
       built_no e = ap No (add-one c) ∙ sym (so_far' ∙ reply_no (bare vertices edges) l s t _ c (λ y m. let q = now_at.all_level y m in omega (arith, q.from, q.to)))
 
-      pub built_on : (get_or w' t 0 ≡ 1 → ⊥) → (end ≡ hi → ⊥) → LevelsBuilt w' hi end (c + 1)
+      pub built_on : (get_or w' t 0 ≡ 1 → ⊥) → hi < end → LevelsBuilt w' hi end (c + 1)
       built_on d e = record {
         within = omega arith;
         stands = rw add-one now_at;
         unseen = rw add-one (unseen' d);
         so_far = so_far'
-            ∙ reply_on (bare vertices edges) l s t _ c (λ m. unseen' d (met_now vertices edges l s m)) (now_at.in_level hi (le_refl hi) (omega (arith, g.more)))
+            ∙ reply_on (bare vertices edges) l s t _ c (λ m. unseen' d (met_now vertices edges l s m)) (now_at.in_level hi (le_refl hi) e)
             ∙ ap (λ (n : ℕ). reply_from (bare vertices edges) l t (limit - (c + 1)) n (stage (bare vertices edges) l s n)) (sym (add-one c));
       }
 

@@ -1,7 +1,7 @@
 // The level search (plain check): level after level, the levels counted, and the call with its checks.
 #![tactic(auto)]
 
-ghost use Rattle.std.specs.Prelude.{◌≡◌, [], ◌≤◌, length};
+ghost use Rattle.std.specs.Prelude.{◌≡◌, Ok, [], ◌≤◌, length};
 ghost use Rattle.model.specs.Limits.{least_work};
 ghost use Rattle.model.specs.Replies.{reply_of};
 ghost use Rattle.calls.specs.Call.{lent, Meets};
@@ -10,62 +10,39 @@ ghost use Rattle.frontier.specs.Work.{Unmarked};
 ghost use Rattle.frontier.specs.Search.{Searchable};
 ghost use Rattle.level_search.specs.Run.{found_by, Searches, Tells};
 
-use checks::Standing;
-use model::SearchReply;
+use frontier::StateSearch;
+use model::{Refusal, SearchReply, Size};
 
 // The model's number, in the width of a level limit.
 const ENOUGH_LEVELS: u32 = model::ENOUGH_LEVELS as u32;
 
 // The levels, over work memory in which no state is marked.
-fn levels(
-    vertices: u32,
-    edges: &[u32],
-    pattern: &[u8],
-    s: u32,
-    t: u32,
-    limit: u32,
-    work: &mut [u64],
-) -> SearchReply
-    requires searchable { Searchable vertices edges.now pattern.now s t }
-    requires unmarked { Unmarked work.old }
-    ensures { reply_of result ≡ found_by vertices edges.now pattern.now s t limit }
+fn levels(search: &StateSearch, limit: u32, work: &mut [u64]) -> SearchReply
+    requires { Unmarked work.old }
+    ensures { reply_of (Ok result) ≡ found_by search.now.vertices search.now.edges.now search.now.pattern.now search.now.start search.now.destination limit }
 {
-    let slots = edges::first_slots(vertices, edges);
-    work[frontier::QUEUE] = s as u64;
-    let mut lo = 0;
-    let mut hi = 1;
-    let mut c: u32 = 0;
-    while c < limit {
-        let end = frontier::next_level(edges, &slots, pattern, work, lo, hi);
-        c += 1;
-        if work[t as usize] == 1 {
+    work[frontier::QUEUE] = u64::from(search.start);
+    let mut level = 0..1;
+    for c in 1..=limit {
+        level = frontier::next_level(search, work, level);
+        if work[search.destination as usize] == 1 {
             return SearchReply::Yes(c);
         }
-        if end == hi {
+        if level.is_empty() {
             return SearchReply::No(c);
         }
-        lo = hi;
-        hi = end;
     }
     SearchReply::Spent(limit)
 }
 
 // The level search with work memory of any content, which it leaves zero.
-pub fn run(
-    vertices: u32,
-    edges: &[u32],
-    pattern: &[u8],
-    s: u32,
-    t: u32,
-    limit: u32,
-    work: &mut [u64],
-) -> SearchReply
-    requires { Searchable vertices edges.now pattern.now s t × (least_work ≤ length work.old) }
-    ensures { Searches vertices edges.now pattern.now s t limit work.old result work.new }
+pub fn run(search: &StateSearch, limit: u32, work: &mut [u64]) -> SearchReply
+    requires { least_work ≤ length work.old }
+    ensures { Searches search.now.vertices search.now.edges.now search.now.pattern.now search.now.start search.now.destination limit work.old result work.new }
 {
-    memory::clear_u64(&mut work[..frontier::QUEUE]);
-    let reply = levels(vertices, edges, pattern, s, t, limit, work);
-    memory::clear_u64(work);
+    work[..frontier::QUEUE].fill(0);
+    let reply = levels(search, limit, work);
+    work.fill(0);
     reply
 }
 
@@ -81,50 +58,24 @@ pub fn is_run(
     requires { Searchable vertices edges.now pattern.now s t × (least_work ≤ length work.old) }
     ensures { Tells vertices edges.now pattern.now s t work.old result work.new }
 {
-    let reply = run(vertices, edges, pattern, s, t, ENOUGH_LEVELS, work);
-    match reply {
-        SearchReply::Yes(_) => true,
-        SearchReply::No(_) => false,
-        SearchReply::Spent(_) => false,
-        SearchReply::Refused(_) => false,
-    }
+    let search = StateSearch::new(vertices, edges, pattern, s, t);
+    let reply = run(&search, ENOUGH_LEVELS, work);
+    matches!(reply, SearchReply::Yes(_))
 }
 
 // The plain check for all inputs, by the pattern as keyed.
 pub fn search(
-    vertices: u32,
-    longest: u32,
+    size: Size,
     start: u32,
     destination: u32,
     pattern: &[u8],
     level_limit: u32,
     edges: &[u32],
     work: &mut [u64],
-) -> SearchReply
-    ensures { Meets (search_call (record { vertices = vertices; longest = longest }) start destination pattern.now level_limit
-        (lent edges.now [] work.old)) (reply_of result) (lent edges.now [] work.new) }
+) -> Result<SearchReply, Refusal>
+    ensures { Meets (search_call size start destination pattern.now level_limit (lent edges.now [] work.old)) (reply_of result) (lent edges.now [] work.new) }
 {
-    let checked = query_checks::check_search(
-        vertices,
-        longest,
-        start,
-        destination,
-        pattern,
-        edges,
-        work,
-    );
-    match checked {
-        Standing::Refused(refusal) => SearchReply::Refused(refusal),
-        Standing::Edges(n) => {
-            run(
-                vertices,
-                &edges[..n],
-                pattern,
-                start,
-                destination,
-                level_limit,
-                work,
-            )
-        }
-    }
+    let n = query_checks::check_search(size, start, destination, pattern, edges, work)?;
+    let search = StateSearch::new(size.vertices, &edges[..n], pattern, start, destination);
+    Ok(run(&search, level_limit, work))
 }

@@ -1,62 +1,45 @@
-use mathlib.Core.Path.{refl, ◌∙◌}
+use mathlib.Core.Path.{refl, ap, ◌∙◌}
+use Rattle.model.specs.States.{Yes, No}
+use Prim.Native.Nat.{◌≤◌, ◌<◌}
 use native.Mathlib.Omega.{arith}
-use lib.ListN.{length-set}
+use Rattle.std.proofs.lemmas.Bool.Decides.{nat_tests}
 use Rattle.frontier.proofs.Stands.{stands_first}
-use Rattle.level_search.proofs.Built.{built_start, built_yes, built_no, built_on, built_spent}
+use Rattle.level_search.proofs.Built.{LevelsBuilt, built_start, built_yes, built_no, built_on, built_spent}
 use Rattle.level_search.proofs.levels.Goals as goal
-
-pub first_slots-slots-requires : goal.first_slots-slots-requires
-first_slots-slots-requires c = c.requires.searchable.vertices_small
-
-pub bounds-work-1024 : goal.bounds-work-1024
-bounds-work-1024 c = omega (arith, c.requires.unmarked.long)
+use Rattle.level_search.proofs.levels.Goals.{Else-is_empty}
 
 pub loop-c-init : goal.loop-c-init
-loop-c-init c =
-    (built_start _ _ _ _ _ _ (stands_first _ _ _ _ c.requires.searchable c.requires.unmarked), refl)
+loop-c-init c = record {
+  built = 0;
+  next = refl;
+  levels = rw c.from.ensures (built_start _ _ _ _ _ _ (stands_first _ _ _ _ c.args.search.now.searchable c.requires));
+}
 
-pub next_level-end-requires : goal.next_level-end-requires
-next_level-end-requires c =
-    let p = c.requires.searchable in
-    let b = c.loop-c.invariant.0 in
-    record { rising = (p.rises, c.first_slots-slots.ensures); room = (b.stands.room, (p.short, (b.stands.fit, b.stands.ends))) }
+pub returns-then-work-search-eq1 : goal.returns-then-work-search-eq1
+returns-then-work-search-eq1 c =
+    let so_far = c.loop-c.invariant in
+    ap Yes so_far.next ∙ built_yes _ _ _ _ _ _ c.args.search.now.searchable so_far.levels (omega arith) c.next_level-level.ensures.grown c.if-work-search-eq1.true
 
-pub overflow_add-c : goal.overflow_add-c
-overflow_add-c c = omega (arith, c.loop-c-test.true)
+pub returns-then-is_empty : goal.returns-then-is_empty
+returns-then-is_empty c =
+    let so_far = c.loop-c.invariant in
+    let none : c.next_level-level.result.end ≤ c.next_level-level.result.start = grind (arith, nat_tests) in
+    ap No so_far.next ∙ built_no _ _ _ _ _ _ c.args.search.now.searchable so_far.levels (omega arith) c.next_level-level.ensures.grown (omega arith)
 
-pub offset_bounds-work-t : goal.offset_bounds-work-t
-offset_bounds-work-t c = omega (arith, c.requires.searchable.vertices_small)
-
-pub bounds-work-t : goal.bounds-work-t
-bounds-work-t c =
-    omega (arith, c.requires.searchable, c.loop-c.invariant.0.stands.room.long, c.next_level-end.ensures.len)
-
-pub shape_of-work-then-work-t-eq1 : goal.shape_of-work-then-work-t-eq1
-shape_of-work-then-work-t-eq1 c =
-    c.next_level-end.ensures.len ∙ c.loop-c.invariant.1 ∙ simp length-set
-
-pub returns-then-work-t-eq1 : goal.returns-then-work-t-eq1
-returns-then-work-t-eq1 c =
-    built_yes _ _ _ _ _ _ c.requires.searchable c.loop-c.invariant.0 (omega (arith, c.loop-c-test.true)) c.next_level-end.ensures c.if-work-t-eq1.true
-
-pub shape_of-work-then-end-hi : goal.shape_of-work-then-end-hi
-shape_of-work-then-end-hi c =
-    c.next_level-end.ensures.len ∙ c.loop-c.invariant.1 ∙ simp length-set
-
-pub returns-then-end-hi : goal.returns-then-end-hi
-returns-then-end-hi c =
-    built_no _ _ _ _ _ _ c.requires.searchable c.loop-c.invariant.0 (omega (arith, c.loop-c-test.true)) c.next_level-end.ensures c.if-end-hi.true
-
-pub loop-c-smaller : goal.loop-c-smaller
-loop-c-smaller c =
-    omega (arith, c.loop-c-test.true)
+-- one level more is built
+one_more : (c : Else-is_empty) → LevelsBuilt c.args.search.now.vertices c.args.search.now.edges.now c.args.search.now.pattern.now c.args.search.now.start c.args.search.now.destination
+    c.args.limit c.next_level-level.new.work c.next_level-level.result.start c.next_level-level.result.end c.loop-c.c
+one_more c =
+    let so_far = c.loop-c.invariant in
+    let some : c.next_level-level.result.start < c.next_level-level.result.end = grind (arith, nat_tests) in
+    rw (so_far.next, c.next_level-level.ensures.start)
+    (built_on _ _ _ _ _ _ c.args.search.now.searchable so_far.levels (omega arith) c.next_level-level.ensures.grown c.if-work-search-eq1.false (omega arith))
 
 pub loop-c-preserved : goal.loop-c-preserved
-loop-c-preserved c =
-    (built_on _ _ _ _ _ _ c.requires.searchable c.loop-c.invariant.0 (omega (arith, c.loop-c-test.true)) c.next_level-end.ensures c.if-work-t-eq1.false c.if-end-hi.false, c.next_level-end.ensures.len ∙ c.loop-c.invariant.1)
-
-pub shape_of-work : goal.shape_of-work
-shape_of-work c = c.loop-c.invariant.1 ∙ simp length-set
+loop-c-preserved c = record { built = c.loop-c.c; next = refl; levels = one_more (goal.at.loop-c-preserved c).Else-is_empty }
 
 pub returns : goal.returns
-returns c = built_spent _ _ _ _ _ _ c.loop-c.invariant.0 (omega (arith, c.loop-c-test.false))
+returns c = built_spent _ _ _ _ _ _ c.loop-c.invariant.levels (omega arith)
+
+pub returns-else-is_empty : goal.returns-else-is_empty
+returns-else-is_empty c = built_spent _ _ _ _ _ _ (one_more (goal.at.returns-else-is_empty c).Else-is_empty) (omega arith)

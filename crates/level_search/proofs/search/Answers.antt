@@ -1,17 +1,22 @@
 -- `level_search::search` meets its contract: a refusal leaves work memory alone, and a search is over the standing edges, by the pattern as keyed.
-use mathlib.Core.Path.{sym}
+use mathlib.Core.Path.{◌≡◌, sym}
 use lib.Seq.{length-take-le}
 use Rattle.level_search.proofs.Call.{part_edges, searchable, meets, search_refused}
+use Rattle.std.proofs.Common.{rules, Err}
 use Rattle.level_search.proofs.search.Goals as goal
 
-pub slice_bounds-run-end : goal.slice_bounds-run-end
-slice_bounds-run-end c = sym (length-take-le _ c.args.edges.now (part_edges (rw c.in-Edges.is at c.check_search-checked.ensures)))
+pub returns-in_err-n : goal.returns-in_err-n
+returns-in_err-n c =
+    let refused : c.from_residual.result ≡ Err c.in_err-n.field-0.0 = search rules in
+    rw refused (search_refused _ _ _ _ _ _ _ c.in_err-n.ensures)
 
-pub run-requires : goal.run-requires
-run-requires c = let p = rw c.in-Edges.is at c.check_search-checked.ensures in (searchable p, p.room)
+pub slice_bounds-new-end : goal.slice_bounds-new-end
+slice_bounds-new-end c = sym (length-take-le _ c.args.edges.now (part_edges c.in_ok-n.ensures))
 
-pub returns-in-Refused : goal.returns-in-Refused
-returns-in-Refused c = search_refused _ _ _ _ _ _ c.in-Refused.refusal (rw c.in-Refused.is at c.check_search-checked.ensures)
+pub new-search-requires : goal.new-search-requires
+new-search-requires c = searchable c.in_ok-n.ensures
 
-pub returns-in-Edges : goal.returns-in-Edges
-returns-in-Edges c = meets (rw c.in-Edges.is at c.check_search-checked.ensures) c.run.ensures
+pub returns : goal.returns
+returns c =
+    let e = c.new-search.ensures in
+    meets c.in_ok-n.ensures (rw (e.vertices, e.edges, e.pattern, e.start, e.destination) at c.run.ensures)
