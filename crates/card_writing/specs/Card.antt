@@ -1,5 +1,5 @@
 -- What the functions that write a card need, and what they write.
-use Rattle.std.specs.Prelude.{◌≡◌, true, List, [], ◌∷◌, ◌++◌, ℕ, ◌+◌, ◌-◌, ◌*◌, ◌≤◌, ◌<◌, length}
+use Rattle.std.specs.Prelude.{◌≡◌, true, Result, Ok, Err, List, [], ◌∷◌, ◌++◌, ℕ, ◌+◌, ◌-◌, ◌*◌, ◌≤◌, ◌<◌, length}
 use Rattle.model.specs.Limits.{most_edges, head_bytes, triple_bytes}
 use Rattle.model.specs.Lists.{◌∈◌}
 use Rattle.model.specs.Edges.{Bounds, from_of}
@@ -8,8 +8,7 @@ use Rattle.model.specs.Computed.Edges.{edge?}
 use Rattle.calls.specs.Call.{Size, Memory}
 use Rattle.calls.specs.Card.{mark, word_bytes, write_refusal}
 use Rattle.checks.specs.LayoutChecks.{LayoutPasses}
-use Rattle.checks.specs.declared.Standing.{Standing}
-use Rattle.checks.specs.declared.Standing.TheVariants.{Edges, Refused as NotStanding}
+use Rattle.model.specs.declared.Refusal.{Refusal}
 
 -- the size and the edges of a graph whose card the output has room for
 pub record Writable (size : Size) (edges output : List ℕ) : Type 0 where
@@ -38,6 +37,6 @@ pub record WritePasses (size : Size) (m : Memory) (n : ℕ) : Type 0 where
   pub layout : LayoutPasses size.vertices size.longest m.edges n
   pub room : head_bytes + triple_bytes * n ≤ length m.output
 
-abbrev pub WriteChecks : Size → Memory → Standing → Type 0
-WriteChecks size m (Edges n) = WritePasses size m n
-WriteChecks size m (NotStanding r) = write_refusal size m ≡ number_of r
+abbrev pub WriteChecks : Size → Memory → Result ℕ Refusal → Type 0
+WriteChecks size m (Ok n) = WritePasses size m n
+WriteChecks size m (Err r) = write_refusal size m ≡ number_of r

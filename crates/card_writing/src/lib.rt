@@ -7,23 +7,17 @@ ghost use Rattle.model.specs.Computed.Lists.{spread};
 ghost use Rattle.calls.specs.Card.{edge_bytes, card_of};
 ghost use Rattle.card_writing.specs.Card.{WriteChecks, Head, head_of, Body, Writable};
 
-use checks::Standing;
-use model::{FROM_UNIT, HEAD_BYTES, LABEL_UNIT, LABELS, Refusal, TRIPLE_BYTES};
+use model::{Edge, HEAD_BYTES, Refusal, Size, TRIPLE_BYTES};
 
 // The mark first, then version, vertices less one, k and the edge count.
-fn write_head(vertices: u32, longest: u32, n: usize, output: &mut [u8])
-    requires { Head vertices longest n output.old }
-    ensures { output.new ≡ head_of vertices longest n ++ drop head_bytes output.old }
+fn write_head(size: Size, n: usize, output: &mut [u8])
+    requires { Head size.vertices size.longest n output.old }
+    ensures { output.new ≡ head_of size.vertices size.longest n ++ drop head_bytes output.old }
 {
-    output[0] = b'P';
-    output[1] = b'R';
-    output[2] = b'C';
-    output[3] = 0;
-    output[4] = 1;
-    output[5] = (vertices - 1) as u8;
-    output[6] = longest as u8;
-    output[7] = (n / 256) as u8;
-    output[8] = (n % 256) as u8;
+    let (places, longest) = ((size.vertices - 1) as u8, size.longest as u8);
+    let [high, low] = (n as u16).to_be_bytes();
+    let head = [b'P', b'R', b'C', 0, 1, places, longest, high, low];
+    output[..HEAD_BYTES].copy_from_slice(&head);
 }
 
 // From, label and to of each edge.
@@ -31,38 +25,32 @@ fn write_edges(edges: &[u32], output: &mut [u8])
     requires { Body edges.now output.old }
     ensures { output.new ≡ spread edge_bytes edges.now ++ drop (triple_bytes * length edges.now) output.old }
 {
-    let mut i = 0;
-    while i < edges.len() {
-        let x = edges[i];
+    for (i, &x) in edges.iter().enumerate() {
+        let edge = Edge::from(x);
         let at = TRIPLE_BYTES * i;
-        output[at] = (x / FROM_UNIT) as u8;
-        output[at + 1] = (x / LABEL_UNIT % LABELS) as u8;
-        output[at + 2] = (x % LABEL_UNIT) as u8;
-        i += 1;
+        output[at] = edge.from as u8;
+        output[at + 1] = edge.label as u8;
+        output[at + 2] = edge.to as u8;
     }
 }
 
-// Writes the card of a header and its edges to the front of the output, and nothing behind it.
-pub fn write(vertices: u32, longest: u32, edges: &[u32], output: &mut [u8])
-    requires { Writable (record { vertices = vertices; longest = longest }) edges.now output.old }
-    ensures { output.new ≡ card_of (record { vertices = vertices; longest = longest }) edges.now
-        ++ drop (head_bytes + triple_bytes * length edges.now) output.old }
+// Writes the card of a layout's size and its edges to the front of the output, and nothing behind it.
+#[tactic(auto, using(crate::proofs::Writing::body_lent, crate::proofs::Writing::card_written))]
+pub fn write(size: Size, edges: &[u32], output: &mut [u8])
+    requires { Writable size edges.now output.old }
+    ensures { output.new ≡ card_of size edges.now ++ drop (head_bytes + triple_bytes * length edges.now) output.old }
 {
-    write_head(vertices, longest, edges.len(), output);
+    write_head(size, edges.len(), output);
     write_edges(edges, &mut output[HEAD_BYTES..]);
 }
 
 // The checks of a card that is written: 1 2 3 17.
-pub fn check_write(vertices: u32, longest: u32, edges: &[u32], output: &[u8]) -> Standing
-    ensures { WriteChecks (record { vertices = vertices; longest = longest })
-        (record { edges = edges.now; index = []; work = []; output = output.now }) result }
+pub fn check_write(size: Size, edges: &[u32], output: &[u8]) -> Result<usize, Refusal>
+    ensures { WriteChecks size (record { edges = edges.now; index = []; work = []; output = output.now }) result }
 {
-    let layout = checks::check_layout(vertices, longest, edges);
-    let Standing::Edges(n) = layout else {
-        return layout;
-    };
+    let n = checks::check_layout(size, edges)?;
     if output.len() < HEAD_BYTES + TRIPLE_BYTES * n {
-        return Standing::Refused(Refusal::CardOutput);
+        return Err(Refusal::CardOutput);
     }
-    Standing::Edges(n)
+    Ok(n)
 }
