@@ -50,11 +50,13 @@ fn repeats(code: u64) -> bool
     ensures { result ≡ not (own? (digits code_digits code)) }
 {
     let mut unit = DIGIT_UNIT;
-    for d in 1..=CODE_DIGITS / 2 {
+    let mut d = 1;
+    while d + d <= CODE_DIGITS {
         if repeats_by(code, d, unit) {
             return true;
         }
-        unit *= DIGIT_UNIT;
+        d += 1;
+        unit = unit * DIGIT_UNIT;
     }
     false
 }
