@@ -6,19 +6,20 @@ ghost use Rattle.model.specs.Computed.Query.{side_of, owner_of, hub_of};
 ghost use Rattle.model.specs.Build.Renumber.{translate};
 ghost use Rattle.output.specs.Output.{Translatable, IndexWritable, WritesIndex};
 
-use model::{HUB_UNIT, MOST_VERTICES, OWNER_UNIT, SIDE_UNIT};
-
-// What the remainder of an owner or a hub is taken by.
-const VERTICES: u64 = MOST_VERTICES as u64;
+use model::Entry;
 
 // One entry with its owner and hub put back.
 fn put_one(order: &[u8], x: u64) -> u64
     requires { (side_of x < 2) × ((owner_of x < length order.now) × (hub_of x < length order.now)) }
     ensures { result ≡ translate order.now x }
 {
-    let owner = order[(x / OWNER_UNIT % VERTICES) as usize] as u64;
-    let hub = order[(x / HUB_UNIT % VERTICES) as usize] as u64;
-    x / SIDE_UNIT * SIDE_UNIT + owner * OWNER_UNIT + hub * HUB_UNIT + x % HUB_UNIT
+    let ranked = Entry::from(x);
+    let entry = Entry {
+        owner: order[ranked.owner] as usize,
+        hub: order[ranked.hub] as usize,
+        ..ranked
+    };
+    entry.number()
 }
 
 // Writes the staged entries into `to`, with owner and hub put back: vertex order[r] for rank r.
@@ -26,10 +27,8 @@ fn put_back(order: &[u8], staged: &[u64], to: &mut [u64])
     requires { Translatable order.now staged.now × (length staged.now ≡ length to.old) }
     ensures { to.new ≡ map (translate order.now) staged.now }
 {
-    let mut i = 0;
-    while i < staged.len() {
+    for i in 0..staged.len() {
         to[i] = put_one(order, staged[i]);
-        i += 1;
     }
 }
 
@@ -41,5 +40,5 @@ pub fn write(order: &[u8], staged: &mut [u64], index: &mut [u64])
     let n = staged.len();
     put_back(order, staged, &mut index[..n]);
     sort::sort(&mut index[..n], staged);
-    memory::clear_u64(&mut index[n..]);
+    index[n..].fill(0);
 }
