@@ -11,7 +11,7 @@ use Rattle.model.specs.Limits.{most_longest, least_work}
 use Rattle.model.specs.Edges.{standing}
 use Rattle.model.specs.Patterns.{Keyed}
 use Rattle.model.specs.Query.{Refused}
-use Rattle.model.specs.Replies.{number_of}
+use Rattle.model.specs.Replies.{number_of, answered_of}
 use Rattle.model.specs.Computed.Edges.{edge_memory?}
 use Rattle.model.specs.Computed.Patterns.{times_written, once?}
 use Rattle.model.specs.Computed.Levels.{runs?}
@@ -29,7 +29,7 @@ use Rattle.calls.proofs.Calls.{refused_meets, accepted_is}
 use Rattle.calls.proofs.Change.{pass_first}
 use Rattle.calls.proofs.Query.{Allowed, ask_leaves, within, query_full}
 use Rattle.scan.specs.Memory.{extent_of}
-use Rattle.scan.specs.declared.Extent.TheVariants.{Entries}
+use Rattle.std.proofs.Common.{Some, Ok}
 use Rattle.scan.proofs.Scanning.{Entered, entered}
 use Rattle.answer.specs.Saying.{Answerable, Says}
 use Rattle.edges.proofs.Memory.{Scans}
@@ -37,6 +37,11 @@ use Rattle.frontier.specs.Search.{Searchable}
 use Rattle.level_search.specs.Run.{Tells}
 use Rattle.frontier.proofs.Search.{searchable_over}
 use Rattle.query.specs.Call.{asked_call, later_checks, searched_call}
+
+-- a yes or a no, as it is told
+pub answered_is : (b : Bool) → answered_of (Ok b) ≡ saying b
+answered_is true = refl
+answered_is false = refl
 
 module _ (h : Size) (start destination : ℕ) (pattern : List ℕ) (m : Memory) where
   abbrev last : List Check
@@ -82,7 +87,7 @@ module _ (h : Size) (s t : ℕ) (pattern index : List ℕ) (passed : ask_refusal
   asked_refused fails edges work = refused_meets Refused (lent edges index work) _ _ IndexMemory (first_is (stop fails))
 
   -- check 12 has passed, and n entries stand
-  module _ (n : ℕ) (scanned : extent_of h.vertices h.longest index ≡ Entries n) where
+  module _ (n : ℕ) (scanned : extent_of h.vertices h.longest index ≡ Some n) where
     entries : Entered h.vertices h.longest index n
     entries = entered h.vertices h.longest index scanned
 
