@@ -1,74 +1,52 @@
 -- `card_reading::check` meets its contract: each return is the first check that does not pass, or all have passed.
-use mathlib.Core.Path.{◌≡◌, refl, sym, ◌∙◌}
+use mathlib.Core.Path.{◌≡◌, sym, ◌∙◌}
 use mathlib.Core.Bool.{true}
-use Prim.Native.Nat.{◌≤◌}
-use native.Mathlib.Omega.{arith}
-use lib.ListN.{length}
-use Rattle.model.specs.Limits.{head_bytes}
-use Rattle.calls.specs.Card.{marked?}
+use borrow.Author.Tests.{eq-eqb, ne_eqb}
+use Rattle.calls.specs.Card.{version?, size_of}
+use Rattle.calls.specs.Checks.{longest?}
 use Rattle.calls.proofs.Checks.{none, pass, stop}
-use Rattle.calls.proofs.Card.{marked_head, card_is}
-use Rattle.card_reading.proofs.Checking.{versioned}
+use Rattle.calls.proofs.Card.{card_is}
 use Rattle.card_reading.proofs.check.Goals as goal
-use Rattle.card_reading.proofs.check.Goals.{Then-is_marked}
+use Rattle.card_reading.proofs.check.Goals.{After-layout-layout, After-is_longest}
 
-marked : (c : Then-is_marked) → marked? c.args.card.now ≡ true
-marked c = sym c.is_marked.ensures ∙ c.if-is_marked.true
+-- the checks 14 and 15 have passed, and then 2
+versioned : (c : After-layout-layout) → version? c.args.card.now ≡ true
+versioned c = eq-eqb _ 1 (sym c.word.ensures ∙ c.if-word-ne-VERSION.false)
 
-headed : (c : Then-is_marked) → head_bytes ≤ length c.args.card.now
-headed c = marked_head c.args.card.now (marked c)
+fits : (c : After-is_longest) → c.is_longest.result ≡ longest? (size_of c.args.card.now).longest
+fits c = rw c.layout-layout.ensures.size_is at c.is_longest.ensures
 
-pub word-requires : goal.word-requires
-word-requires c = omega (arith, headed (goal.at.word-requires c).Then-is_marked)
+pub returns-then-not-is_marked : goal.returns-then-not-is_marked
+returns-then-not-is_marked c = card_is _ (stop (sym c.is_marked.ensures ∙ c.if-not-is_marked.true))
 
-pub bounds-card-6 : goal.bounds-card-6
-bounds-card-6 c = omega (arith, headed (goal.at.bounds-card-6 c).Then-is_marked)
+pub returns-then-word-ne-VERSION : goal.returns-then-word-ne-VERSION
+returns-then-word-ne-VERSION c =
+    card_is _ (pass (sym c.is_marked.ensures ∙ c.if-not-is_marked.false) (stop (ne_eqb _ 1 (λ e. c.if-word-ne-VERSION.true (c.word.ensures ∙ e)))))
 
-pub overflow_cast-longest : goal.overflow_cast-longest
-overflow_cast-longest c = omega (arith, c.type_inv.card 6)
+pub returns-then-not-is_longest : goal.returns-then-not-is_longest
+returns-then-not-is_longest c =
+    let g = goal.at.returns-then-not-is_longest c in
+    card_is _
+    (pass (sym c.is_marked.ensures ∙ c.if-not-is_marked.false)
+    (pass (versioned g.After-layout-layout) (stop (sym (fits g.After-is_longest) ∙ c.if-not-is_longest.true))))
 
-pub has_edges-requires : goal.has_edges-requires
-has_edges-requires c = headed (goal.at.has_edges-requires c).Then-is_marked
-
-pub bounds-card-5 : goal.bounds-card-5
-bounds-card-5 c = omega (arith, headed (goal.at.bounds-card-5 c).Then-is_marked)
-
-pub overflow_cast-result : goal.overflow_cast-result
-overflow_cast-result c = omega (arith, c.type_inv.card 5)
-
-pub overflow_add-result : goal.overflow_add-result
-overflow_add-result c = omega (arith, c.type_inv.card 5)
-
-pub word-requires-then-has_edges : goal.word-requires-then-has_edges
-word-requires-then-has_edges c = omega (arith, headed (goal.at.word-requires-then-has_edges c).Then-is_marked)
-
-pub returns-then-has_edges : goal.returns-then-has_edges
-returns-then-has_edges c =
-    let card = c.args.card.now in
-    record {
-      is =
-          card_is card
-          (pass (marked (goal.at.returns-then-has_edges c).Then-is_marked)
-          (pass (versioned c.args.card.now _ c.word.ensures (omega arith))
-          (pass (sym c.is_longest.ensures ∙ c.if-is_longest.true)
-          (pass (sym c.has_edges.ensures ∙ c.if-has_edges.true) none))));
-      size_is = refl;
-      count = c.word-then-has_edges.ensures;
-    }
-
-pub returns-then-is_longest : goal.returns-then-is_longest
-returns-then-is_longest c =
-    let card = c.args.card.now in
-    card_is card
-    (pass (marked (goal.at.returns-then-is_longest c).Then-is_marked)
-    (pass (versioned c.args.card.now _ c.word.ensures (omega arith))
-    (pass (sym c.is_longest.ensures ∙ c.if-is_longest.true)
-    (stop (sym c.has_edges.ensures ∙ c.if-has_edges.false)))))
-
-pub returns-then-is_marked : goal.returns-then-is_marked
-returns-then-is_marked c =
-    let card = c.args.card.now in
-    card_is card (pass (marked (goal.at.returns-then-is_marked c).Then-is_marked) (pass (versioned c.args.card.now _ c.word.ensures (omega arith)) (stop (sym c.is_longest.ensures ∙ c.if-is_longest.false))))
+pub returns-then-not-has_edges : goal.returns-then-not-has_edges
+returns-then-not-has_edges c =
+    let g = goal.at.returns-then-not-has_edges c in
+    card_is _
+    (pass (sym c.is_marked.ensures ∙ c.if-not-is_marked.false)
+    (pass (versioned g.After-layout-layout)
+    (pass (sym (fits g.After-is_longest) ∙ c.if-not-is_longest.false) (stop (sym c.has_edges.ensures ∙ c.if-not-has_edges.true)))))
 
 pub returns : goal.returns
-returns c = card_is c.args.card.now (stop (sym c.is_marked.ensures ∙ c.if-is_marked.false))
+returns c =
+    let g = goal.at.returns c in
+    record {
+      is =
+          card_is _
+          (pass (sym c.is_marked.ensures ∙ c.if-not-is_marked.false)
+          (pass (versioned g.After-layout-layout)
+          (pass (sym (fits g.After-is_longest) ∙ c.if-not-is_longest.false) (pass (sym c.has_edges.ensures ∙ c.if-not-has_edges.false) none))));
+      size_is = c.layout-layout.ensures.size_is;
+      count = c.layout-layout.ensures.count;
+    }
