@@ -1,5 +1,5 @@
 -- A word's rows, label by label from its end: one turn, all of them, and emptied again.
-use mathlib.Core.Path.{◌≡◌, refl, sym, subst, ◌∙◌}
+use mathlib.Core.Path.{◌≡◌, sym, ◌∙◌}
 use mathlib.Core.Logic.{⊎_elim, inl, inr}
 use mathlib.Core.List.{List, [], ◌∷◌}
 use Prim.Native.Nat.{ℕ, suc, ◌+◌, ◌-◌, ◌*◌, ◌%◌, ◌≤◌, ◌<◌}
@@ -15,7 +15,7 @@ use Rattle.edges.specs.Grouped.{section, Grouped}
 use Rattle.rows.specs.Region.{step_rows, parent_rows, saved_rows, child_rows}
 use Rattle.rows.specs.Rows.{On, Row, KeepsRows, InRows, Empty}
 use Rattle.rows.proofs.Rows.{row_as, keeps_none, keeps_as, keeps_then, keeps_long, keeps_cell, keeps_row, keeps_empty}
-use Rattle.parent_rows.specs.Steps.{Trail, Word, source_row, Sources, FillsParent, ParentClearable}
+use Rattle.parent_rows.specs.Steps.{Trail, Word, half_of, source_row, Sources, FillsParent, ParentClearable}
 use Rattle.steps.specs.Filling.{Clears, FillsRows, Starting, LeadsTo, LeadsInto, Gathers, RowsFillable, EndsFillable, SourcesClearable, Prependable, Prepends}
 use Rattle.parent_rows.proofs.Trails.{trail_none, trail_edge}
 use Rattle.steps.proofs.Live.{Via, Started, live_outgoing, live_leads, label_outgoing, label_starting, label_leads, label_via, label_fits}
@@ -99,20 +99,17 @@ module _ {edges l : List ℕ} {i a t : ℕ} (h : i < length l) where
   pub first_trail : FirstEdge edges l i a t → Trail edges a (drop i l) t
   first_trail x = rw (drop-cons l i 0 h) (Trail.edge x.small x.stands x.rest)
 
--- the rows from `from` on are where the labels from number i on lead, and the other half is empty; they are the parent's at even numbers, and
--- the step rows at odd ones
-pub record Turning (edges l w w' : List ℕ) (i c from : ℕ) : Type 0 where
+-- the rows of their half are where the labels from number i on lead, and the other half is empty
+pub record Turning (edges l w w' : List ℕ) (i : ℕ) : Type 0 where
   pub inside : i < length l
-  pub label : c ≡ get_or l i 0
-  pub half : from ≡ parent_rows - i % 2 * most_vertices
   pub keeps : KeepsRows w w' (λ r. saved_rows ≤ r)
-  pub quiet : Empty w' (parent_rows - from) most_vertices
-  pub rows : (a : ℕ) → a < most_vertices → Row w' (from + a) (Trail edges a (drop i l))
+  pub quiet : Empty w' (parent_rows - half_of i) most_vertices
+  pub rows : (a : ℕ) → a < most_vertices → Row w' (half_of i + a) (Trail edges a (drop i l))
 
 -- the last label
 module _ {edges slots l : List ℕ} {i : ℕ} (g : Grouped edges slots) (word : Word l) (here : i < length l) where
-  module _ {w : List ℕ} {from : ℕ} (half : from ≡ parent_rows - i % 2 * most_vertices) (quiet : Empty w step_rows (most_vertices + most_vertices)) where
-    pub ends_fillable : {part : List ℕ} → part ≡ section edges slots (get_or l i 0 - 1) → least_work ≤ length w → EndsFillable part w from
+  module _ {w : List ℕ} (quiet : Empty w step_rows (most_vertices + most_vertices)) where
+    pub ends_fillable : {part : List ℕ} → part ≡ section edges slots (get_or l i 0 - 1) → least_work ≤ length w → EndsFillable part w (half_of i)
     ends_fillable e long =
         rw e (record {
           outgoing = label_outgoing g (get_or l i 0) (label_range word i here);
@@ -121,13 +118,11 @@ module _ {edges slots l : List ℕ} {i : ℕ} (g : Grouped edges slots) (word : 
           empty = half_empty (omega arith) quiet;
         })
 
-    pub turning_last : {part w' : List ℕ} → part ≡ section edges slots (get_or l i 0 - 1) → i + 1 ≡ length l → FillsRows from (LeadsTo part) w w'
-        → Turning edges l w' w' i (get_or l i 0) from
+    pub turning_last : {part w' : List ℕ} → part ≡ section edges slots (get_or l i 0 - 1) → i + 1 ≡ length l → FillsRows (half_of i) (LeadsTo part) w w'
+        → Turning edges l w' w' i
     turning_last {part} {w'} e last f =
         record {
           inside = here;
-          label = refl;
-          half = half;
           keeps = keeps_none;
           quiet = keeps_empty f.keeps (λ r x y. omega (arith, x.least, x.most, y.least, y.most)) (half_empty (omega arith) quiet);
           rows = λ a h. row_as (λ t k. (λ x. first_trail here (into a t k x), λ p. back a t k (trail_first here p))) ((rw e at f).rows a h);
@@ -145,98 +140,73 @@ module _ {edges slots l : List ℕ} {i : ℕ} (g : Grouped edges slots) (word : 
             let e : x.b ≡ t = trail_none (rw none at x.rest) in
             (label_leads g (get_or l i 0) (label_range word i here) a t k).1 (rw e at x.stands)
 
--- one label more
-module _ {edges slots l w w' : List ℕ} {j c from : ℕ} (g : Turning edges l w w' j c from) (grouped : Grouped edges slots) (word : Word l) where
-  pub turning_range : (1 ≤ c) × (c ≤ most_label)
-  turning_range = rw g.label (label_range word j g.inside)
+-- one label more, number i
+module _ {edges slots l w w' : List ℕ} (i : ℕ) (g : Turning edges l w w' (i + 1)) (grouped : Grouped edges slots) (word : Word l) where
+  inside : i < length l
+  inside = omega (arith, g.inside)
 
-  pub turning_prependable : {first behind w₀ live : List ℕ} {i starts : ℕ} → first ≡ section edges slots (get_or l i 0 - 1)
-      → behind ≡ section edges slots (c - 1) → i < length l → starts ≡ child_rows + most_label * (length l - 1 - j) + c - 1
-      → Sources edges l w₀ → KeepsRows w₀ w (λ r. saved_rows ≤ r) → length edges ≤ length live → Prependable first behind w' from starts live
-  turning_prependable {w₀ = w₀} {i = i} {starts = starts} first_is behind-is inside row s e room =
+  range : (1 ≤ get_or l i 0) × (get_or l i 0 ≤ most_label)
+  range = label_range word i inside
+
+  last_range : (1 ≤ get_or l (i + 1) 0) × (get_or l (i + 1) 0 ≤ most_label)
+  last_range = label_range word (i + 1) g.inside
+
+  pub turning_prependable : {first behind w₀ live : List ℕ} {starts : ℕ} → first ≡ section edges slots (get_or l i 0 - 1)
+      → behind ≡ section edges slots (get_or l (i + 1) 0 - 1) → starts ≡ child_rows + most_label * (length l - 1 - 1 - i) + get_or l (i + 1) 0 - 1
+      → Sources edges l w₀ → KeepsRows w₀ w (λ r. saved_rows ≤ r) → length edges ≤ length live → Prependable first behind w' (half_of (i + 1)) starts live
+  turning_prependable {w₀ = w₀} {starts = starts} first_is behind-is row s e room =
       rw (first_is, behind-is) (record {
         long = keeps_long kept s.long;
-        half = elim (ℕ_discrete (j % 2) 0) [ yes z ↦ inr (omega (arith, g.half)) | no z ↦ inl (omega (arith, g.half)) ];
-        starts_row = omega (arith, turning_range, word.short);
-        outgoing = (label_outgoing grouped (get_or l i 0) (label_range word i inside), label_outgoing grouped c turning_range);
+        half = elim (ℕ_discrete ((i + 1) % 2) 0) [ yes z ↦ inr (omega arith) | no z ↦ inl (omega arith) ];
+        starts_row = omega (arith, last_range, word.short);
+        outgoing = (label_outgoing grouped (get_or l i 0) range, label_outgoing grouped (get_or l (i + 1) 0) last_range);
         quiet = g.quiet;
         sources = λ a t h k o. let p = (g.rows a h).only t k o in (on a h t p, starting a t p);
-        room = omega (arith, label_fits grouped (get_or l i 0) (label_range word i inside));
+        room = omega (arith, label_fits grouped (get_or l i 0) range);
       })
     where
       kept : KeepsRows w₀ w' (λ r. saved_rows ≤ r)
       kept = keeps_then e g.keeps
 
-      on : (a : ℕ) → a < most_vertices → (t : ℕ) → Trail edges a (drop j l) t → On w' starts a
+      on : (a : ℕ) → a < most_vertices → (t : ℕ) → Trail edges a (drop (i + 1) l) t → On w' starts a
       on a h t p =
-          let q : starts ≡ source_row l j = omega (arith, turning_range, g.label) in
-          rw q (keeps_cell kept (source_row l j) (omega arith) a h ∙ s.all j a t g.inside h p)
+          let q : starts ≡ source_row l (i + 1) = omega (arith, last_range) in
+          rw q (keeps_cell kept (source_row l (i + 1)) (omega arith) a h ∙ s.all (i + 1) a t g.inside h p)
 
-      starting : (a t : ℕ) → Trail edges a (drop j l) t → Starting (section edges slots (c - 1)) a
-      starting a t p =
-          let x = trail_first g.inside p in
-          label_starting grouped c turning_range a x.b x.small (rw g.label x.stands)
+      starting : (a t : ℕ) → Trail edges a (drop (i + 1) l) t → Starting (section edges slots (get_or l (i + 1) 0 - 1)) a
+      starting a t p = let x = trail_first g.inside p in label_starting grouped (get_or l (i + 1) 0) last_range a x.b x.small x.stands
 
-  pub turning_more : {first w'' : List ℕ} {i : ℕ} → first ≡ section edges slots (get_or l i 0 - 1) → i + 1 ≡ j → Prepends first w' w'' from
-      → Turning edges l w w'' i (get_or l i 0) (parent_rows - from)
-  turning_more {first} {w''} {i} first_is next p =
+  pub turning_more : {first w'' : List ℕ} → first ≡ section edges slots (get_or l i 0 - 1) → Prepends first w' w'' (half_of (i + 1))
+      → Turning edges l w w'' i
+  turning_more {first} {w''} first_is p =
       record {
         inside = inside;
-        label = refl;
-        half = turn;
         keeps = keeps_then g.keeps p.keeps;
-        quiet = rw back p.quiet;
-        rows = λ a h. row_as (λ t k. (
+        quiet = let e : parent_rows - half_of i ≡ half_of (i + 1) = omega arith in rw e p.quiet;
+        rows = λ a h. rw turn (row_as (λ t k. (
           λ x. first_trail inside (led a t k ((label_via grouped (get_or l i 0) range).0 x)),
           λ q. (label_via grouped (get_or l i 0) range).1 (leads a t k (trail_first inside q)),
-        )) ((rw first_is at p).rows a h);
+        )) ((rw first_is at p).rows a h));
       }
     where
-      inside : i < length l
-      inside = omega (arith, g.inside)
-
-      range : (1 ≤ get_or l i 0) × (get_or l i 0 ≤ most_label)
-      range = label_range word i inside
-
-      is : suc i ≡ j
+      is : suc i ≡ i + 1
       is = omega arith
 
-      turn : parent_rows - from ≡ parent_rows - i % 2 * most_vertices
-      turn =
-          let parity : (i + 1) % 2 + i % 2 ≡ 1 = omega arith in
-          let f : from ≡ parent_rows - (i + 1) % 2 * most_vertices = subst (λ (k : ℕ). from ≡ parent_rows - k % 2 * most_vertices) (sym next) g.half in
-          omega (arith, parity, f)
+      turn : half_of i ≡ parent_rows - half_of (i + 1)
+      turn = omega arith
 
-      back : parent_rows - (parent_rows - from) ≡ from
-      back = omega (arith, g.half)
-
-      led : (a t : ℕ) → t < most_vertices → Via edges w' from a (get_or l i 0) t → FirstEdge edges l i a t
+      led : (a t : ℕ) → t < most_vertices → Via edges w' (half_of (i + 1)) a (get_or l i 0) t → FirstEdge edges l i a t
       led a t k x =
           record { b = x.b; small = x.small; stands = x.stands; rest = rw is ((g.rows x.b x.small).only t k x.on) }
 
-      leads : (a t : ℕ) → t < most_vertices → FirstEdge edges l i a t → Via edges w' from a (get_or l i 0) t
+      leads : (a t : ℕ) → t < most_vertices → FirstEdge edges l i a t → Via edges w' (half_of (i + 1)) a (get_or l i 0) t
       leads a t k x =
           record { b = x.b; small = x.small; stands = x.stands; on = (g.rows x.b x.small).all t k (rw is at x.rest) }
 
 -- ---- the whole word
 
-pub turning_all : {edges l w₀ w w' : List ℕ} {j c from : ℕ} → KeepsRows w₀ w (λ r. saved_rows ≤ r) → j ≤ 0 → Turning edges l w w' j c from
-    → FillsParent edges l w₀ w'
-turning_all {edges} {l} {w₀} {w} {w'} {j} {c} {from} e end g =
-    record {
-      keeps = keeps_then e g.keeps;
-      quiet = let z : parent_rows - from ≡ step_rows = omega arith in rw z at g.quiet;
-      parent = record { rows = λ a h. subst (λ (r : ℕ). Row w' (r + a) (Trail edges a l)) half (whole a h) };
-    }
-  where
-    none : j ≡ 0
-    none = omega arith
-
-    whole : (a : ℕ) → a < most_vertices → Row w' (from + a) (Trail edges a l)
-    whole a h = subst (λ (k : ℕ). Row w' (from + a) (Trail edges a (drop k l))) none (g.rows a h)
-
-    half : from ≡ parent_rows
-    half = omega (arith, subst (λ (k : ℕ). from ≡ parent_rows - k % 2 * most_vertices) none g.half)
+pub turning_all : {edges l w₀ w w' : List ℕ} → KeepsRows w₀ w (λ r. saved_rows ≤ r) → Turning edges l w w' 0 → FillsParent edges l w₀ w'
+turning_all e g = record { keeps = keeps_then e g.keeps; quiet = g.quiet; parent = record { rows = g.rows } }
 
 -- no label
 pub no_label : {edges w w' : List ℕ} (l : List ℕ) → length l ≡ 0 → Empty w step_rows (most_vertices + most_vertices)

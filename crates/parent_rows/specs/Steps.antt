@@ -1,5 +1,5 @@
 -- Words that lead from vertex to vertex.
-use Rattle.std.specs.Prelude.{List, [], ◌∷◌, ℕ, ◌+◌, ◌-◌, ◌*◌, ◌≤◌, ◌<◌, length, get_or, drop}
+use Rattle.std.specs.Prelude.{List, [], ◌∷◌, ℕ, ◌+◌, ◌-◌, ◌*◌, ◌%◌, ◌≤◌, ◌<◌, length, get_or, drop}
 use Rattle.model.specs.Limits.{most_vertices, most_label, most_longest, least_work}
 use Rattle.model.specs.Lists.{◌∈◌}
 use Rattle.model.specs.Edges.{edge_number}
@@ -25,6 +25,10 @@ source_row l i = child_rows + most_label * (length l - 1 - i) + (get_or l i 0 - 
 pub record Sources (edges l w : List ℕ) : Type 0 where
   pub long : least_work ≤ length w
   pub all : (i a t : ℕ) → i < length l → a < most_vertices → Trail edges a (drop i l) t → On w (source_row l i) a
+
+-- the half that the labels from number i on fill: the parent's rows at even numbers, and the step rows at odd ones
+abbrev pub half_of : ℕ → ℕ
+half_of i = parent_rows - i % 2 * most_vertices
 
 -- row a of the parent's rows is where the word leads from a, for every vertex a
 pub record Parent (edges l w : List ℕ) : Type 0 where
