@@ -1,12 +1,11 @@
--- The edges turned round one by one, and the pattern read from its end.
+-- The edges turned round one by one.
 use mathlib.Core.Path.{◌≡◌, sym, ap, ◌∙◌}
 use mathlib.Core.List.Memᴰ
-use mathlib.Core.List.{List, [], ◌∷◌, ◌++◌, map, reverse, reverse-cons}
-use Prim.Native.Nat.{ℕ, suc, ◌+◌, ◌-◌, ◌%◌, ◌≤◌, ◌<◌, ◌^◌}
-use native.Mathlib.Decide.{dec_lt}
+use mathlib.Core.List.{List, ◌++◌, map}
+use Prim.Native.Nat.{ℕ, ◌%◌, ◌≤◌, ◌<◌, ◌^◌}
 use native.Mathlib.Omega.{arith}
-use lib.ListN.{length, get_or, take, drop, set, replicate, length-append, length-map, length-reverse, get_or-append}
-use lib.Seq.{get_or_at, take_at, length-take-le}
+use lib.ListN.{length, get_or, take, replicate, length-append, length-map}
+use lib.Seq.{take_at, length-take-le}
 use Rattle.model.specs.Limits.{most_edges}
 use Rattle.model.specs.Lists.{◌∈◌}
 use Rattle.model.specs.Edges.{from_of}
@@ -14,13 +13,9 @@ use Rattle.model.specs.Turned.{turned}
 use Rattle.model.proofs.Lists.{get_d_in, get_d_map, rising_lt}
 use Rattle.model.proofs.Reversal.{turned_turned}
 use Rattle.memory.specs.Widths.{Narrow}
-use Rattle.memory.proofs.Mix.{Mixed}
-use Rattle.memory.proofs.Copying.{copy_start, copy_turn, copy_end}
 use Rattle.sort.specs.Order.{low_bits, Distinct, HalfSorted, Sorts}
 use Rattle.sort.proofs.Apart.{rising_distinct, map_distinct}
 use Rattle.backward.specs.Turning.{Turnable}
-
--- ---- edges
 
 module _ {edges : List ℕ} (h : Turnable edges) where
   pub turned_distinct : Distinct (map turned edges)
@@ -68,36 +63,3 @@ module _ {edges sorted : List ℕ} (h : Turnable edges) (s : Sorts (map turned e
   narrowed {out} zeros f =
       let same : out ≡ sorted = f ∙ sorted_front in
       rw (take_at out zeros (length edges) (ap length same ∙ sorted_long ∙ e), same) s
-
--- ---- the pattern
-
-pub get_d_reverse : (l : List ℕ) (i : ℕ) → i < length l → get_or (reverse l) i 0 ≡ get_or l (length l - 1 - i) 0
-get_d_reverse [] i h = absurd (omega arith)
-get_d_reverse (x ∷ l) i h = elim (dec_lt i (length l)) [
-  | yes k ↦
-      let at : length (x ∷ l) - 1 - i ≡ suc (length l - 1 - i) = omega arith in
-      rw (reverse-cons x l, at) (get_or-append (reverse l) (x ∷ []) 0 i (omega (arith, length-reverse l)) ∙ get_d_reverse l i k)
-  | no k ↦
-      let at : length (x ∷ l) - 1 - i ≡ 0 = omega arith in
-      rw (reverse-cons x l, at) (get_or_at (reverse l) x [] 0 i (omega (arith, length-reverse l)))
-]
-
--- l from its end, at the front of s
-abbrev pub ended : List ℕ → List ℕ → List ℕ
-ended l s = reverse l ++ drop (length (reverse l)) s
-
-module _ (l s : List ℕ) (room : length l ≤ length s) where
-  fits : length (reverse l) ≤ length s
-  fits = omega (arith, length-reverse l)
-
-  pub ended_start : Mixed (ended l s) s s 0
-  ended_start = copy_start (reverse l) s fits
-
-  module _ {cur : List ℕ} {i : ℕ} (m : Mixed (ended l s) s cur i) where
-    pub ended_turn : i < length l → Mixed (ended l s) s (set cur i (get_or l (length l - 1 - i) 0)) (i + 1)
-    ended_turn h = rw (get_d_reverse l i h) at (copy_turn (reverse l) s fits m (omega (arith, length-reverse l)))
-
-    pub ended_end : length l ≤ i → take (length l) cur ≡ reverse l
-    ended_end h =
-        let e : cur ≡ ended l s = copy_end (reverse l) s fits m (omega (arith, length-reverse l)) in
-        ap (take (length l)) e ∙ take_at (reverse l) (drop (length (reverse l)) s) (length l) (length-reverse l)

@@ -10,14 +10,20 @@ ghost use Rattle.sort.specs.Order.{Sorts};
 ghost use Rattle.frontier.specs.Search.{Short, Searchable};
 ghost use Rattle.backward.specs.Turning.{Turnable, TellsTo};
 
-use model::{FROM_UNIT, LABEL_UNIT, LABELS, MOST_EDGES, MOST_LONGEST, MOST_VERTICES};
+use model::{Edge, MOST_EDGES, MOST_LONGEST, MOST_VERTICES};
 
 // An edge with its ends exchanged.
 fn turned(x: u32) -> u32
     requires { from_of x < most_vertices }
     ensures { result ≡ turned x }
 {
-    edges::edge_number(x % LABEL_UNIT, x / LABEL_UNIT % LABELS, x / FROM_UNIT)
+    let edge = Edge::from(x);
+    let turned = Edge {
+        from: edge.to,
+        label: edge.label,
+        to: edge.from,
+    };
+    turned.number()
 }
 
 // Writes each edge, turned, into `to`.
@@ -25,10 +31,8 @@ fn turn_each(edges: &[u32], to: &mut [u64])
     requires { Turnable edges.now × (length edges.now ≡ length to.old) }
     ensures { to.new ≡ map turned edges.now }
 {
-    let mut i = 0;
-    while i < edges.len() {
-        to[i] = turned(edges[i]) as u64;
-        i += 1;
+    for (i, &x) in edges.iter().enumerate() {
+        to[i] = u64::from(turned(x));
     }
 }
 
@@ -60,11 +64,8 @@ fn reversed(pattern: &[u8]) -> [u8; MOST_LONGEST]
     ensures { take (length pattern.now) result ≡ reverse pattern.now }
 {
     let mut back = [0u8; MOST_LONGEST];
-    let mut i = 0;
-    while i < pattern.len() {
-        back[i] = pattern[pattern.len() - 1 - i];
-        i += 1;
-    }
+    back[..pattern.len()].copy_from_slice(pattern);
+    back[..pattern.len()].reverse();
     back
 }
 

@@ -1,13 +1,8 @@
 -- `backward::turn_each` meets its contract. The invariant: the first i edges are turned.
 use mathlib.Core.List.{map}
-use Prim.Native.Nat.{◌-◌}
-use lib.ListN.{length}
 use Rattle.model.specs.Turned.{turned}
 use Rattle.memory.proofs.Mix.{Mixed}
 use Rattle.backward.proofs.turn_each.Given as goal
 
 abbrev pub invariant-loop-i : goal.invariant-loop-i
 invariant-loop-i l = Mixed (map turned l.edges) l.initial.to l.to l.i
-
-abbrev pub decreases-loop-i : goal.decreases-loop-i
-decreases-loop-i l = length l.edges - l.i
