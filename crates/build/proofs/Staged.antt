@@ -7,6 +7,7 @@ use mathlib.Core.Logic.{◌↔◌}
 use Prim.Native.Nat.{ℕ, ◌+◌, ◌≤◌, ◌<◌}
 use native.Mathlib.Omega.{arith}
 use lib.ListN.{length, take, replicate, length-take}
+use Rattle.std.specs.Prelude.{Option}
 use Rattle.model.specs.Limits.{most_vertices, most_edges, most_label, most_longest}
 use Rattle.model.specs.Lists.{◌∈◌, up_to}
 use Rattle.model.specs.Entries.{IsEntry}
@@ -15,7 +16,7 @@ use Rattle.rows.specs.Region.{step_rows, saved_rows, root_row}
 use Rattle.rows.specs.Rows.{InRows, Becomes}
 use Rattle.rows.proofs.Rows.{keeps_empty}
 use Rattle.renumber.specs.Ranked.{Renumbered}
-use Rattle.staging.specs.Stage.{Stages}
+use Rattle.staging.specs.Stage.{room_of, Stages}
 use Rattle.staging.proofs.Adding.{stages_as, stages_since, stages_within}
 use Rattle.steps.specs.Filling.{Clears}
 use Rattle.suffixes.specs.Suffixes.{PatternEntry, word_of, NodeStageable, NodeStages}
@@ -27,7 +28,7 @@ use Rattle.build.specs.Staging.{GraphStages}
 abbrev blank : List ℕ
 blank = replicate most_longest 0
 
-module _ {vertices longest : ℕ} {edges order w : List ℕ} {room : ℕ} (s : Buildable vertices longest edges order room w)
+module _ {vertices longest : ℕ} {edges order w : List ℕ} (s : Buildable vertices longest edges order (room_of w) w)
     {result slots : List ℕ} (q : Renumbered vertices edges order result slots) where
   abbrev renumbered : List ℕ
   renumbered = take (length edges) result
@@ -42,7 +43,7 @@ module _ {vertices longest : ℕ} {edges order w : List ℕ} {room : ℕ} (s : B
   module _ {w₁ w₂ : List ℕ} (c : Clears w w₁ step_rows (most_vertices + most_vertices)) (r : Becomes w₁ w₂ root_row (λ k. k < most_vertices)) where
     -- with any bound on the patterns' length
     pub node_stageable : (live : List ℕ) → most_edges ≤ length live → {k : ℕ} → 1 ≤ k → k ≤ most_longest
-        → NodeStageable renumbered slots blank w₂ 0 root_row live k room 0
+        → NodeStageable renumbered slots blank w₂ 0 root_row live k 0
     node_stageable live fits more most =
         record {
           grouped = q.grouped;
@@ -53,25 +54,24 @@ module _ {vertices longest : ℕ} {edges order w : List ℕ} {room : ℕ} (s : B
           spelled = λ a t l trail. r.row.all a l l;
           quiet = keeps_empty r.keeps (λ k x e. omega (arith, x.most)) c.empty;
           listable = omega (arith, length-take (length edges) result, s.ordered.few, fits);
-          count = omega arith;
-          there = omega (arith, r.keeps.len, c.keeps.len, s.work);
+          taken = omega (arith, r.keeps.len, c.keeps.len, s.work);
         }
       where
         none : (c : ℕ) → c ∈ word_of blank 0 → (1 ≤ c) × (c ≤ most_label)
         none c m = absurd (Memᴰ.not-nil m)
 
-    pub graph_stages : {w₃ : List ℕ} {n : ℕ} → NodeStages w₂ 0 (Beyond longest (PatternEntry renumbered) (word_of blank 0)) room 0 w₃ n
-        → GraphStages vertices longest edges order w room w₃ n
+    pub graph_stages : {w₃ : List ℕ} {n : Option ℕ} → NodeStages w₂ 0 (Beyond longest (PatternEntry renumbered) (word_of blank 0)) 0 w₃ n
+        → GraphStages vertices longest edges order w w₃ n
     graph_stages {w₃} {n} v = record { edges' = renumbered; renumbers = q.renumbers; stages = cleared }
       where
         same : (e : ℕ) → Entry e ↔ Beyond longest (PatternEntry renumbered) [] e
         same = entries_beyond vertices longest renumbered s.bounds.vertices_most q.valid
 
-        whole : Stages w₂ Kept Entry room 0 w₃ n
+        whole : Stages w₂ Kept Entry 0 w₃ n
         whole = stages_within (stages_as v.stages (λ e. Iff.symm (same e))) (λ k x. record { least = x.least; most = omega (arith, x.most) })
 
-        rooted : Stages w₁ Kept Entry room 0 w₃ n
+        rooted : Stages w₁ Kept Entry 0 w₃ n
         rooted = stages_since whole r.keeps (λ k x e. omega (arith, x.most)) (λ k l e. omega arith)
 
-        cleared : Stages w Kept Entry room 0 w₃ n
+        cleared : Stages w Kept Entry 0 w₃ n
         cleared = stages_since rooted c.keeps (λ k x e. omega (arith, x.least, e.most)) (λ k l e. omega (arith, e.most))

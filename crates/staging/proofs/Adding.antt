@@ -95,7 +95,7 @@ module _ {w w' : List ℕ} {k n : ℕ} {P : ℕ → Type 0} (s : (i : ℕ) → i
         once = λ i j h b l q. d.once i j h b l (sym (s i (omega arith)) ∙ q ∙ s j l);
       }
 
-  adds_kept : Adds w k n P → Adds w' k n P
+  pub adds_kept : Adds w k n P → Adds w' k n P
   adds_kept a =
       record {
         more = a.more;
@@ -103,7 +103,7 @@ module _ {w w' : List ℕ} {k n : ℕ} {P : ℕ → Type 0} (s : (i : ℕ) → i
         all = λ e q. let t = a.all e q in record { i = t.i; low = t.low; high = t.high; is = s t.i t.high ∙ t.is };
       }
 
-  over_kept : Over w k n P → Over w' k n P
+  pub over_kept : Over w k n P → Over w' k n P
   over_kept o =
       record {
         different = different_kept o.different;
