@@ -6,7 +6,7 @@ ghost use Rattle.model.specs.Limits.{hub_unit};
 ghost use Rattle.scan.specs.Memory.{extent_of};
 ghost use Rattle.scan.specs.Scan.{slot_of, Seen, Examines, FieldEnd, Skims};
 
-use model::{HUB_UNIT, OWNER_UNIT, SIDE_UNIT, Size, VERTICES};
+use model::{Entry, HUB_UNIT, OWNER_UNIT, SIDE_UNIT, Size, VERTICES};
 
 // A code as it is kept: CODE_DIGITS digits fit.
 type Kept = u16;
@@ -30,19 +30,19 @@ fn is_entry(size: Size, x: u64, seen: &mut [Kept; SLOTS]) -> bool
     requires { Seen size.longest seen.old }
     ensures { Examines size.vertices size.longest x seen.new result }
 {
-    if 2 <= x / SIDE_UNIT {
+    let entry = Entry::from(x);
+    if 2 <= entry.side {
         return false;
     }
-    if size.vertices as u64 <= x / OWNER_UNIT % VERTICES {
+    if size.vertices as usize <= entry.owner {
         return false;
     }
-    if size.vertices as u64 <= x / HUB_UNIT % VERTICES {
+    if size.vertices as usize <= entry.hub {
         return false;
     }
-    let code = x % HUB_UNIT;
-    if codes::is_code(size.longest, code) {
-        let at = slot(code);
-        seen[at] = code as Kept;
+    if codes::is_code(size.longest, entry.code) {
+        let at = slot(entry.code);
+        seen[at] = entry.code as Kept;
         return true;
     }
     false
@@ -107,12 +107,7 @@ pub fn scan(size: Size, index: &[u64]) -> Option<usize>
     loop {
         match skim(index, i, prev, end, n * HUB_UNIT, &seen) {
             Exit::Stray => return None,
-            Exit::Rest(at) => {
-                if memory::all_zero(&index[at..]) {
-                    return Some(at);
-                }
-                return None;
-            }
+            Exit::Rest(at) => return memory::all_zero(&index[at..]).then_some(at),
             Exit::Untested(at) => {
                 prev = index[at];
                 if !is_entry(size, prev, &mut seen) {

@@ -1,5 +1,5 @@
-use mathlib.Core.Path.{◌≡◌, sym, ◌∙◌}
-use mathlib.Core.Bool.{true, false}
+use mathlib.Core.Path.{◌≡◌, refl, sym, ◌∙◌}
+use mathlib.Core.Bool.{Bool, true, false, cond}
 use mathlib.Core.List.{List}
 use Prim.Native.Nat.{ℕ, ◌*◌, ◌≤◌, ◌<◌}
 use native.Mathlib.Omega.{arith}
@@ -10,6 +10,7 @@ use Rattle.model.specs.Computed.Query.{side_of, entry?}
 use Rattle.model.proofs.Checked.{checked_zeros}
 use Rattle.scan.specs.Memory.{extent_of, scan_from}
 use Rattle.scan.specs.Scan.{FieldEnd, Seen, Within, Skims, extent_at}
+use Rattle.std.specs.Bool.{then_some}
 use Rattle.std.proofs.Common.{Some, None}
 use Rattle.scan.specs.declared.Exit.{Exit}
 use Rattle.scan.proofs.Fields.{seen_none, hubs_below, within, entry_side}
@@ -29,15 +30,15 @@ pub returns-in-Stray : goal.returns-in-Stray
 returns-in-Stray c = sym (skimmed c.in-Stray.ensures c.field_end-n.ensures c.loop-at.invariant)
 
 -- at the rest
-pub returns-then-all_zero : goal.returns-then-all_zero
-returns-then-all_zero c =
-    sym (skimmed c.in-Rest.ensures c.field_end-n.ensures c.loop-at.invariant
-    ∙ checked_zeros Some None c.args.index.now c.in-Rest.at true (sym c.all_zero.ensures ∙ c.if-all_zero.true))
+some_if : (b : Bool) (n : ℕ) → then_some b n ≡ cond b (Some n) None
+some_if true n = refl
+some_if false n = refl
 
 pub returns-in-Rest : goal.returns-in-Rest
 returns-in-Rest c =
-    sym (skimmed c.in-Rest.ensures c.field_end-n.ensures c.loop-at.invariant
-    ∙ checked_zeros Some None c.args.index.now c.in-Rest.at false (sym c.all_zero.ensures ∙ c.if-all_zero.false))
+    c.then_some.ensures ∙ some_if _ _
+    ∙ sym (skimmed c.in-Rest.ensures c.field_end-n.ensures c.loop-at.invariant
+    ∙ checked_zeros Some None c.args.index.now c.in-Rest.at _ (sym c.all_zero.ensures))
 
 -- at an entry that is to be looked at
 pub overflow_add-end : goal.overflow_add-end
