@@ -13,10 +13,12 @@ use Rattle.model.specs.Computed.Query.{answers?}
 use Rattle.model.proofs.Lists.{keep_as, below}
 use Rattle.model.proofs.Tables.{tabulates_as}
 use Rattle.calls.specs.QueryTwo.{lowest}
-use Rattle.answer_tables.specs.Saying.{SaysFrom, SaysTo}
+use Rattle.answer.specs.declared.Side.{Side}
+use Rattle.answer.specs.declared.Side.TheVariants.{Out, In}
+use Rattle.answer_tables.specs.Saying.{SaysOf}
 use Rattle.reachable.specs.Reached.{TellsFrom}
 use Rattle.backward.specs.Turning.{TellsTo}
-use Rattle.middles.specs.Meeting.{told?, Puttable}
+use Rattle.middles.specs.Meeting.{told?, led?, Puttable}
 
 -- ---- what a single question tells
 
@@ -31,19 +33,15 @@ module _ (vertices : ℕ) (edges index l : List ℕ) (s t : ℕ) where
 
 -- for every vertex
 module _ {vertices : ℕ} {edges index l : List ℕ} {v : ℕ} {table : List Bool} (p : Puttable vertices edges index l v) where
-  pub out_once : once? l ≡ true → SaysFrom index l v table → Tabulates vertices table (λ u. told? vertices edges index l v u)
-  out_once e says =
-      tabulates_as (says.is vertices p.longest p.searchable.vertices_small p.searchable.start p.indexed) (λ u _. sym (told_once _ edges _ l v u e))
+  pub led_once : (side : Side) → once? l ≡ true → SaysOf side index l v table → Tabulates vertices table (λ u. led? side vertices edges index l v u)
+  led_once Out e says = tabulates_as (says.is vertices p.longest p.searchable.vertices_small p.searchable.start p.indexed) (λ u _. sym (told_once _ edges _ l v u e))
+  led_once In e says = tabulates_as (says.is vertices p.longest p.searchable.vertices_small p.searchable.start p.indexed) (λ u _. sym (told_once _ edges _ l u v e))
 
-  pub out_repeating : once? l ≡ false → TellsFrom vertices edges l v table → Tabulates vertices table (λ u. told? vertices edges index l v u)
-  out_repeating e tells = tabulates_as tells.is (λ u _. sym (told_repeating _ _ index l v u e))
+  pub led_out : once? l ≡ false → TellsFrom vertices edges l v table → Tabulates vertices table (λ u. told? vertices edges index l v u)
+  led_out e tells = tabulates_as tells.is (λ u _. sym (told_repeating _ _ index l v u e))
 
-  pub home_once : once? l ≡ true → SaysTo index l v table → Tabulates vertices table (λ u. told? vertices edges index l u v)
-  home_once e says =
-      tabulates_as (says.is vertices p.longest p.searchable.vertices_small p.searchable.start p.indexed) (λ u _. sym (told_once _ edges _ l u v e))
-
-  pub home_repeating : once? l ≡ false → TellsTo vertices edges l v table → Tabulates vertices table (λ u. told? vertices edges index l u v)
-  home_repeating e tells = tabulates_as tells.is (λ u _. sym (told_repeating _ _ index l u v e))
+  pub led_in : once? l ≡ false → TellsTo vertices edges l v table → Tabulates vertices table (λ u. told? vertices edges index l u v)
+  led_in e tells = tabulates_as tells.is (λ u _. sym (told_repeating _ _ index l u v e))
 
 -- two tables, and the lowest of both
 pub tables_meet : {vertices : ℕ} {out home : List Bool} {f g : ℕ → Bool} → Tabulates vertices out f → Tabulates vertices home g

@@ -9,12 +9,19 @@ use Rattle.model.specs.Computed.Levels.{runs?}
 use Rattle.model.specs.Computed.Patterns.{once?}
 use Rattle.model.specs.Computed.Query.{answers?}
 use Rattle.calls.specs.QueryTwo.{lowest}
+use Rattle.answer.specs.declared.Side.{Side}
+use Rattle.answer.specs.declared.Side.TheVariants.{Out, In}
 use Rattle.answer.specs.Saying.{Indexed}
 use Rattle.frontier.specs.Search.{Searchable}
 
 -- what a single question by l tells of the edges and entries that stand: the index replies for a pattern that is written once, and a search for another
 unfoldable pub told? : ℕ → (edges index l : List ℕ) → ℕ → ℕ → Bool
 told? vertices edges index l s t = cond (once? l) (answers? vertices index l s t) (runs? (bare vertices edges) l s t)
+
+-- the same from vertex v to u, on the out side, or from u to v, on the in side
+abbrev pub led? : Side → ℕ → (edges index l : List ℕ) → ℕ → ℕ → Bool
+led? Out vertices edges index l v u = told? vertices edges index l v u
+led? In vertices edges index l v u = told? vertices edges index l u v
 
 -- edges and entries that l can be put to, from or to vertex v
 pub record Puttable (vertices : ℕ) (edges index l : List ℕ) (v : ℕ) : Type 0 where

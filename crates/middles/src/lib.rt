@@ -2,70 +2,55 @@
 // leads home, and the lowest vertex that stands in both.
 #![tactic(auto)]
 
-ghost use Rattle.std.specs.Prelude.{◌≡◌, false, ◌&&◌, ◌≤◌, length, get_or};
+ghost use Rattle.std.specs.Prelude.{◌≡◌, Ok, false, ◌&&◌, ◌≤◌, length, get_or};
 ghost use Rattle.model.specs.Limits.{most_vertices, least_work};
 ghost use Rattle.model.specs.Lists.{keep, up_to};
 ghost use Rattle.model.specs.Tables.{Tabulates};
 ghost use Rattle.model.specs.Replies.{two_answered_of};
 ghost use Rattle.calls.specs.QueryTwo.{lowest};
-ghost use Rattle.middles.specs.Meeting.{told?, Puttable, Meeting};
+ghost use Rattle.middles.specs.Meeting.{led?, Puttable, Meeting};
 
-use model::{MOST_VERTICES, TwoReply};
+use answer::Side;
+use model::MOST_VERTICES;
 
 // The lowest vertex that is marked in both tables.
-pub fn lowest(vertices: u32, out: &[bool], home: &[bool]) -> TwoReply
-    requires { (vertices ≤ most_vertices) × ((length out.now ≡ most_vertices) × (length home.now ≡ most_vertices)) }
-    ensures { two_answered_of result
+pub fn lowest(
+    vertices: u32,
+    out: &[bool; MOST_VERTICES],
+    home: &[bool; MOST_VERTICES],
+) -> Option<u32>
+    requires { vertices ≤ most_vertices }
+    ensures { two_answered_of (Ok result)
         ≡ lowest (keep (λ v. get_or out.now v false && get_or home.now v false) (up_to vertices)) }
 {
-    let mut v: u32 = 0;
-    while v < vertices {
-        if out[v as usize] {
-            if home[v as usize] {
-                return TwoReply::Yes(v);
-            }
+    for v in 0..vertices {
+        if out[v as usize] && home[v as usize] {
+            return Some(v);
         }
-        v += 1;
     }
-    TwoReply::No
+    None
 }
 
-// The vertices to which the pattern leads from start.
-fn outward(
+// The vertices to which the pattern leads from the vertex, on the out side, or from which it leads there, on the in side.
+fn led(
     vertices: u32,
-    start: u32,
+    side: Side,
+    vertex: u32,
     pattern: &[u8],
     edges: &[u32],
     index: &[u64],
     work: &mut [u64],
 ) -> [bool; MOST_VERTICES]
-    requires { Puttable vertices edges.now index.now pattern.now start × (least_work ≤ length work.old) }
-    ensures { Tabulates vertices result (λ v. told? vertices edges.now index.now pattern.now start v) }
+    requires { Puttable vertices edges.now index.now pattern.now vertex × (least_work ≤ length work.old) }
+    ensures { Tabulates vertices result (λ v. led? side vertices edges.now index.now pattern.now vertex v) }
 {
-    let folded = patterns::minimum_repeat(pattern);
-    if folded.times == 1 {
-        return answer_tables::answers_from(index, start, pattern);
+    if patterns::minimum_repeat(pattern).times == 1 {
+        return answer_tables::answers(index, side, vertex, pattern);
     }
-    reachable::reached(vertices, edges, pattern, start, work)
-}
-
-// The vertices from which the pattern leads to destination.
-fn homeward(
-    vertices: u32,
-    destination: u32,
-    pattern: &[u8],
-    edges: &[u32],
-    index: &[u64],
-    work: &mut [u64],
-) -> [bool; MOST_VERTICES]
-    requires { Puttable vertices edges.now index.now pattern.now destination × (least_work ≤ length work.old) }
-    ensures { Tabulates vertices result (λ v. told? vertices edges.now index.now pattern.now v destination) }
-{
-    let folded = patterns::minimum_repeat(pattern);
-    if folded.times == 1 {
-        return answer_tables::answers_to(index, destination, pattern);
+    match side {
+        Side::Out => reachable::reached(vertices, edges, pattern, vertex, work),
+        Side::In => backward::reaching(vertices, edges, pattern, vertex, work),
     }
-    backward::reaching(vertices, edges, pattern, destination, work)
 }
 
 // Past all checks, by patterns of which one repeats itself. It leaves work memory zero.
@@ -78,14 +63,14 @@ pub fn meet(
     edges: &[u32],
     index: &[u64],
     work: &mut [u64],
-) -> TwoReply
+) -> Option<u32>
     requires puttable { Puttable vertices edges.now index.now first.now start × Puttable vertices edges.now index.now second.now destination }
     requires least_work_in_bounds { least_work ≤ length work.old }
     ensures { Meeting vertices edges.now index.now first.now second.now start destination
-        work.old (two_answered_of result) work.new }
+        work.old (two_answered_of (Ok result)) work.new }
 {
-    let out = outward(vertices, start, first, edges, index, work);
-    let home = homeward(vertices, destination, second, edges, index, work);
-    memory::clear_u64(work);
+    let out = led(vertices, Side::Out, start, first, edges, index, work);
+    let home = led(vertices, Side::In, destination, second, edges, index, work);
+    work.fill(0);
     lowest(vertices, &out, &home)
 }
