@@ -1,13 +1,13 @@
 -- The bits of a number, as facts: under each operation, and the lowest.
 use mathlib.Core.Path.{◌≡◌}
 use mathlib.Core.Logic.{◌⊎◌, inl, inr, ⊎_elim, ◌↔◌}
-use Prim.Native.Nat.{ℕ, suc, ◌-◌, ◌/◌, ◌%◌, ◌^◌, ◌<◌, min}
+use Prim.Native.Nat.{ℕ, ◌-◌, ◌^◌, ◌<◌, min}
 use native.Mathlib.Omega.{arith}
 use native.Mathlib.Decide.{ℕ_discrete, dec_lt}
 use lib.Bits.{bit_and, bit_or}
 use lib.Count.{count_trailing_zeros}
 use Rattle.std.specs.Int.{w64, bit_at, bit_not}
-use Rattle.std.proofs.lemmas.Nat.Bits.{bit_at-zero, bit_at_and, bit_at_or, bit_at_not, bit_at_above, bit_at_lowest, bit_at-suc, bit_at-trailing_zeros}
+use Rattle.std.proofs.lemmas.Nat.Bits.{bit_at-zero, bit_at_and, bit_at_or, bit_at_not, bit_at_above, bit_at-trailing_zeros}
 
 pub no_bit : (i : ℕ) → bit_at 0 i ≡ 1 → ⊥
 no_bit i e = omega (arith, bit_at-zero i)
@@ -47,16 +47,3 @@ pub lowest : (x : ℕ) → x < 2 ^ 64 → (x ≡ 0 → ⊥) → Lowest x (count_
 lowest x h n =
     let is = bit_at-trailing_zeros w64 x (omega arith) h in
     record { here = is.1; before = λ i l e. omega (arith, is.2 i l) }
-
--- ---- as single_starts names them
-abbrev pub bit : ℕ → ℕ → ℕ
-bit x i = bit_at x i
-
-pub bit_suc : (x i : ℕ) → bit x (suc i) ≡ bit (x / 2) i
-bit_suc x i = bit_at-suc x i
-
-pub bit_zero : (x : ℕ) → bit x 0 ≡ x % 2
-bit_zero x = bit_at_lowest x
-
-pub trailing : (k x : ℕ) → x < 2 ^ 64 → (x ≡ 0 → ⊥) → Lowest x (count_trailing_zeros 64 x)
-trailing k x h n = lowest x h n

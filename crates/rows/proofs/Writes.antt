@@ -66,14 +66,6 @@ pub record Making (w w' : List ℕ) (r : ℕ) (R : ℕ → ℕ → Type 0) (i : 
   pub rest : (k : ℕ) → i ≤ k → k < row_numbers → number w' r k ≡ number w r k
   pub made : (k : ℕ) → k < i → R k (number w' r k)
 
-pub making_none : (w : List ℕ) (r : ℕ) (R : ℕ → ℕ → Type 0) → Making w w r R 0
-making_none w r R =
-    record {
-      keeps = record { len = refl; same = λ k n. refl };
-      rest = λ k l h. refl;
-      made = λ k l. absurd (omega arith);
-    }
-
 module _ {w w' : List ℕ} {r : ℕ} {R : ℕ → ℕ → Type 0} {i : ℕ} (m : Making w w' r R i) (h : i < row_numbers) where
   -- the numbers that are read next are as they were, also in row r itself
   pub making_reads : (a : ℕ) → number w' a i ≡ number w a i
@@ -94,9 +86,6 @@ module _ {w w' : List ℕ} {r : ℕ} {R : ℕ → ℕ → Type 0} {i : ℕ} (m :
             (λ e. let q : k ≡ i = omega arith in rw q y)
             (λ n. m.made k (omega arith));
       }
-
-pub making_all : {w w' : List ℕ} {r : ℕ} {R : ℕ → ℕ → Type 0} {i : ℕ} → Making w w' r R i → row_numbers ≤ i → Makes w w' r R
-making_all m h = record { keeps = m.keeps; made = λ k l. m.made k (omega arith) }
 
 -- ---- one bit
 module _ {w : List ℕ} {r j : ℕ} (h : Has w r) (l : j < most_vertices) where

@@ -10,12 +10,14 @@ use lib.Bits.{bit_and, and_le_l}
 use lib.Count.{count_trailing_zeros}
 use lib.ListN.{get_or}
 use Rattle.std.specs.Prelude.{Option, Some, None}
+use Rattle.std.specs.Int.{bit_at}
+use Rattle.std.proofs.lemmas.Nat.Bits.{bit_at_lowest, bit_at-suc}
 use Rattle.model.specs.Limits.{most_vertices, hub_unit}
 use Rattle.model.specs.Build.Hubs.{joining, Direct}
 use Rattle.model.proofs.Joins.{joining_same}
 use Rattle.rows.specs.Region.{row_numbers}
 use Rattle.rows.specs.Rows.{cell, On, StepsTo}
-use Rattle.rows.proofs.Bits.{bit, no_bit, and_iff, bit_below, Lowest, bit_suc, bit_zero, trailing}
+use Rattle.rows.proofs.Bits.{no_bit, and_iff, bit_below, Lowest, lowest}
 use Rattle.rows.proofs.Rows.{keeps_steps}
 use Rattle.staging.specs.Stage.{HasTaken, AllRows, Stages}
 use Rattle.single_starts.specs.Single.{StepsWithin}
@@ -25,26 +27,26 @@ use Rattle.single_starts.proofs.Stepping.{direct_as, direct_or, direct_more, dir
 -- ---- the lowest bit cleared
 
 -- of the bits of x, x - 1 has all but the lowest
-pred_bit : (t x i : ℕ) → Lowest x t → bit x i ≡ 1 → (bit (x - 1) i ≡ 1) ↔ (i ≡ t → ⊥)
-pred_bit zero x zero l b = (λ e. absurd (omega (arith, bit_zero x, bit_zero (x - 1))), λ n. absurd (n refl))
+pred_bit : (t x i : ℕ) → Lowest x t → bit_at x i ≡ 1 → (bit_at (x - 1) i ≡ 1) ↔ (i ≡ t → ⊥)
+pred_bit zero x zero l b = (λ e. absurd (omega (arith, bit_at_lowest x, bit_at_lowest (x - 1))), λ n. absurd (n refl))
 pred_bit zero x (suc i) l b =
-    let half : (x - 1) / 2 ≡ x / 2 = omega (arith, bit_zero x, l.here) in
-    (λ _ e. omega arith, λ _. bit_suc (x - 1) i ∙ ap (λ (y : ℕ). bit y i) half ∙ sym (bit_suc x i) ∙ b)
+    let half : (x - 1) / 2 ≡ x / 2 = omega (arith, bit_at_lowest x, l.here) in
+    (λ _ e. omega arith, λ _. bit_at-suc (x - 1) i ∙ ap (λ (y : ℕ). bit_at y i) half ∙ sym (bit_at-suc x i) ∙ b)
 pred_bit (suc t) x zero l b = absurd (l.before 0 (omega arith) b)
 pred_bit (suc t) x (suc i) l b =
-    let even : bit x 0 ≡ 1 → ⊥ = l.before 0 (omega arith) in
-    let half : (x - 1) / 2 ≡ x / 2 - 1 = omega (arith, bit_zero x) in
-    let is : bit (x - 1) (suc i) ≡ bit (x / 2 - 1) i = bit_suc (x - 1) i ∙ ap (λ (y : ℕ). bit y i) half in
+    let even : bit_at x 0 ≡ 1 → ⊥ = l.before 0 (omega arith) in
+    let half : (x - 1) / 2 ≡ x / 2 - 1 = omega (arith, bit_at_lowest x) in
+    let is : bit_at (x - 1) (suc i) ≡ bit_at (x / 2 - 1) i = bit_at-suc (x - 1) i ∙ ap (λ (y : ℕ). bit_at y i) half in
     let low : Lowest (x / 2) t =
-    record { here = sym (bit_suc x t) ∙ l.here; before = λ j h e. l.before (suc j) (omega arith) (bit_suc x j ∙ e) } in
-    let (f, g) = pred_bit t (x / 2) i low (sym (bit_suc x i) ∙ b) in
+    record { here = sym (bit_at-suc x t) ∙ l.here; before = λ j h e. l.before (suc j) (omega arith) (bit_at-suc x j ∙ e) } in
+    let (f, g) = pred_bit t (x / 2) i low (sym (bit_at-suc x i) ∙ b) in
     (λ e q. f (sym is ∙ e) (omega arith), λ n. is ∙ g (λ q. n (omega arith)))
 
 -- x & (x - 1)
 abbrev pub cleared : ℕ → ℕ
 cleared x = bit_and x (x - 1)
 
-cleared_iff : (x t i : ℕ) → Lowest x t → (bit (cleared x) i ≡ 1) ↔ ((bit x i ≡ 1) × (i ≡ t → ⊥))
+cleared_iff : (x t i : ℕ) → Lowest x t → (bit_at (cleared x) i ≡ 1) ↔ ((bit_at x i ≡ 1) × (i ≡ t → ⊥))
 cleared_iff x t i l = (
   λ e. let (a, b) = (and_iff x (x - 1) i).0 e in (a, (pred_bit t x i l a).0 b),
   λ e. (and_iff x (x - 1) i).1 (e.0, (pred_bit t x i l e.0).1 e.1),
@@ -54,17 +56,17 @@ cleared_iff x t i l = (
 
 -- a steps to b, a vertex of number i whose bit is cleared in x
 abbrev pub Taken : List ℕ → ℕ → ℕ → ℕ → ℕ → Type 0
-Taken w i x a b = StepsWithin w i a b × (bit x (b % 64) ≡ 1 → ⊥)
+Taken w i x a b = StepsWithin w i a b × (bit_at x (b % 64) ≡ 1 → ⊥)
 
 -- the bits of x are steps from s, and the entries for the others are staged
 pub record Numbering (w : List ℕ) (s i code cnt : ℕ) (w' : List ℕ) (n x : ℕ) : Type 0 where
   pub wide : x < 2 ^ 64
-  pub left : (k : ℕ) → bit x k ≡ 1 → On w s (i * 64 + k)
+  pub left : (k : ℕ) → bit_at x k ≡ 1 → On w s (i * 64 + k)
   pub stages : Stages w AllRows (Direct (Taken w i x) code s) cnt w' (Some n)
 
 module _ (w : List ℕ) (s i : ℕ) where
   -- the bits of number i
-  number_bit : (b : ℕ) → b / 64 ≡ i → cell w s b ≡ bit (get_or w (s * row_numbers + i) 0) (b % 64)
+  number_bit : (b : ℕ) → b / 64 ≡ i → cell w s b ≡ bit_at (get_or w (s * row_numbers + i) 0) (b % 64)
   unfolding cell
   number_bit b e = rw e refl
 
@@ -76,7 +78,7 @@ module _ (w : List ℕ) (s i : ℕ) where
         left = λ k b.
             let l = bit_below 64 (get_or w (s * row_numbers + i) 0) k h b in
             let q : (i * 64 + k) % 64 ≡ k = omega arith in
-            number_bit (i * 64 + k) (omega arith) ∙ ap (bit (get_or w (s * row_numbers + i) 0)) q ∙ b;
+            number_bit (i * 64 + k) (omega arith) ∙ ap (bit_at (get_or w (s * row_numbers + i) 0)) q ∙ b;
         stages = stages_none c (λ e d. let r = d.related in r.1 (sym (number_bit d.end r.0.1) ∙ r.0.0.on));
       }
 
@@ -86,7 +88,7 @@ module _ {w w' : List ℕ} {s i code cnt n x : ℕ} (a : Numbering w s i code cn
     z = count_trailing_zeros 64 x
 
     first : Lowest x z
-    first = trailing 64 x a.wide more
+    first = lowest x a.wide more
 
     pub numbering_low : z < 64
     numbering_low = bit_below 64 x z a.wide first.here
@@ -104,7 +106,7 @@ module _ {w w' : List ℕ} {s i code cnt n x : ℕ} (a : Numbering w s i code cn
       new : (y : ℕ) → Direct (Taken w i x) code s y → y ≡ e → ⊥
       new y d q =
           direct_new u hc hs step.0.to (λ t r. r.0.0.to)
-          (λ r. r.1 (ap (bit x) low ∙ first.here))
+          (λ r. r.1 (ap (bit_at x) low ∙ first.here))
           (rw (q ∙ is) at d)
 
       one_more : (b : ℕ) → (Taken w i x s b ⊎ (b ≡ u)) ↔ Taken w i (cleared x) s b
@@ -112,7 +114,7 @@ module _ {w w' : List ℕ} {s i code cnt n x : ℕ} (a : Numbering w s i code cn
         ⊎_elim
             (λ r. (r.0, λ q. r.1 ((cleared_iff x z (b % 64) first).0 q).0))
             (λ q. (subst (StepsWithin w i s) (sym q) step, λ p. ((cleared_iff x z (b % 64) first).0 p).1 (ap (λ (v : ℕ). v % 64) q ∙ low))),
-        λ r. elim (ℕ_discrete (bit x (b % 64)) 1) [
+        λ r. elim (ℕ_discrete (bit_at x (b % 64)) 1) [
           | no h ↦ inl (r.0, h)
           | yes h ↦ elim (ℕ_discrete (b % 64) z) [
             | yes q ↦ inr (omega (arith, r.0.1))
