@@ -85,7 +85,7 @@ module _ {x : ℕ} where
 filled_out : (m k : ℕ) (ys : List ℕ) → k < length ys → length ys ≤ m → remove (filled m ys) k ++ 0 ∷ [] ≡ filled m (remove ys k)
 filled_out m k ys h l =
     let n : m - length (remove ys k) ≡ m - length ys + 1 = omega (arith, length-remove ys k h) in
-    rw (remove-append_left ys (replicate (m - length ys) 0) k h, n, append_assoc, replicate_more {X = ℕ} (m - length ys) 0) refl
+    rw (remove-append_left ys (replicate (m - length ys) 0) k h, n, append_assoc (remove ys k) (replicate (m - length ys) 0) (0 ∷ []), replicate_more {X = ℕ} (m - length ys) 0) refl
 
 module _ {xs : List ℕ} {at : ℕ} (r : Removable xs at) where
   abbrev x : ℕ
@@ -94,7 +94,7 @@ module _ {xs : List ℕ} {at : ℕ} (r : Removable xs at) where
   within : length (standing xs) ≤ length xs
   within = filled_within (standing xs) r.zeros
 
-  pub remove_most : at < length xs
+  remove_most : at < length xs
   remove_most = omega (arith, r.inside, within)
 
   there : get_or (standing xs) at 0 ≡ x

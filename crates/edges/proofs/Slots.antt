@@ -1,21 +1,17 @@
 -- Laws of first slots: what is below a key stays below a higher one, and the table as it is filled.
 use mathlib.Core.Path.{◌∙◌}
 use mathlib.Core.List.{List}
-use Prim.Native.Nat.{ℕ, ◌+◌, ◌*◌, ◌≤◌, ◌<◌}
+use Prim.Native.Nat.{ℕ, ◌*◌, ◌≤◌, ◌<◌}
 use native.Mathlib.Omega.{arith}
 use native.Mathlib.Decide.{ℕ_discrete}
 use lib.ListN.{length, get_or, set, replicate, length-set, length-replicate, get_or-replicate}
 use lib.Seq.{get_or-set_same, get_or-set_other}
-use borrow.Author.Count.{below_more}
 use Rattle.model.specs.Limits.{most_vertices, from_unit}
 use Rattle.model.specs.Lists.{Rising}
 use Rattle.model.proofs.Lists.{rising_le}
 use Rattle.edges.specs.Slots.{Under, Skipped, Starts}
 
 module _ {edges : List ℕ} {key n : ℕ} where
-  pub under_more : Under edges key n → n < length edges → get_or edges n 0 < key → Under edges key (n + 1)
-  under_more u h k = record { most = omega arith; below = below_more (λ j. get_or edges j 0 < key) n u.below k }
-
   -- a higher key leaves as much under it
   pub under_up : {key' : ℕ} → key ≤ key' → Under edges key n → Under edges key' n
   under_up h u = record { most = u.most; below = λ j k. omega (arith, u.below j k) }

@@ -54,12 +54,11 @@ pub fn skip(edges: &[u32], from: usize, key: u32) -> usize
     requires { Under edges.now key from }
     ensures { Skipped edges.now key result }
 {
-    for i in from..edges.len() {
-        if key <= edges[i] {
-            return i;
-        }
+    let mut i = from;
+    while i < edges.len() && edges[i] < key {
+        i += 1;
     }
-    edges.len()
+    i
 }
 
 // For each vertex, the slot where its edges start, so that a search looks at a vertex's own edges only.
