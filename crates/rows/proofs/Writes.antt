@@ -60,32 +60,35 @@ clear_is m = made_is m (λ j y h e. (λ o. omega (arith, e, bit_at-zero (j % 64)
 
 -- ---- number by number
 
--- w' is w with the first i numbers of row r made some that R holds of
-pub record Making (w w' : List ℕ) (r : ℕ) (R : ℕ → ℕ → Type 0) (i : ℕ) : Type 0 where
-  pub keeps : KeepsRows w w' (λ q. q ≢ r)
-  pub rest : (k : ℕ) → i ≤ k → k < row_numbers → number w' r k ≡ number w r k
-  pub made : (k : ℕ) → k < i → R k (number w' r k)
+-- w' is w with the first i numbers of row x made some that Q holds of, with those of rows a and b
+pub record Making (w w' : List ℕ) (x a b : ℕ) (Q : ℕ → ℕ → ℕ → Type 0) (i : ℕ) : Type 0 where
+  pub keeps : KeepsRows w w' (λ q. q ≢ x)
+  pub rest : (k : ℕ) → i ≤ k → k < row_numbers → number w' x k ≡ number w x k
+  pub made : (k : ℕ) → k < i → Q (number w a k) (number w b k) (number w' x k)
 
-module _ {w w' : List ℕ} {r : ℕ} {R : ℕ → ℕ → Type 0} {i : ℕ} (m : Making w w' r R i) (h : i < row_numbers) where
-  -- the numbers that are read next are as they were, also in row r itself
-  pub making_reads : (a : ℕ) → number w' a i ≡ number w a i
-  making_reads a = elim (ℕ_discrete a r) [
+module _ {w w' : List ℕ} {x a b : ℕ} {Q : ℕ → ℕ → ℕ → Type 0} {i : ℕ} (m : Making w w' x a b Q i) (h : i < row_numbers) where
+  -- the numbers that are read next are as they were, also in row x itself
+  reads : (r : ℕ) → number w' r i ≡ number w r i
+  reads r = elim (ℕ_discrete r x) [
     | yes e ↦ rw e (m.rest i (omega arith) h)
-    | no n ↦ m.keeps.same (a * row_numbers + i) (λ e. n (omega arith))
+    | no n ↦ m.keeps.same (r * row_numbers + i) (λ e. n (omega arith))
   ]
 
-  pub making_more : {v : ℕ} → Has w r → R i v → Making w (set w' (r * row_numbers + i) v) r R (i + 1)
-  making_more {v} x y =
+  pub making_more : {v : ℕ} → Has w x → Q (number w' a i) (number w' b i) v → Making w (set w' (x * row_numbers + i) v) x a b Q (i + 1)
+  making_more {v} has y =
       record {
         keeps = record {
           len = length-set w' _ _ ∙ m.keeps.len;
-          same = λ k n. get_or-set_other w' (r * row_numbers + i) k _ 0 (λ e. n (omega arith)) ∙ m.keeps.same k n;
+          same = λ k n. get_or-set_other w' (x * row_numbers + i) k _ 0 (λ e. n (omega arith)) ∙ m.keeps.same k n;
         };
-        rest = λ k l n. get_or-set_other w' (r * row_numbers + i) _ _ 0 (λ e. omega arith) ∙ m.rest k (omega arith) n;
-        made = λ k l. set_is (R k) w' (r * row_numbers + i) _ (r * row_numbers + k) (omega (arith, m.keeps.len, x.row, x.long))
-            (λ e. let q : k ≡ i = omega arith in rw q y)
+        rest = λ k l n. get_or-set_other w' (x * row_numbers + i) _ _ 0 (λ e. omega arith) ∙ m.rest k (omega arith) n;
+        made = λ k l. set_is (Q (number w a k) (number w b k)) w' (x * row_numbers + i) _ (x * row_numbers + k) (omega (arith, m.keeps.len, has.row, has.long))
+            (λ e. let q : k ≡ i = omega arith in rw q made)
             (λ n. m.made k (omega arith));
       }
+    where
+      made : Q (number w a i) (number w b i) v
+      made = rw (reads a, reads b) at y
 
 -- ---- one bit
 module _ {w : List ℕ} {r j : ℕ} (h : Has w r) (l : j < most_vertices) where
