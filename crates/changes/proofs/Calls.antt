@@ -67,7 +67,7 @@ module _ {h : Size} {from label to : ℕ} {m : Memory} where
           count = omega (arith, length_insert x (standing m.edges), p.passes.count);
           header = g.header;
           few = s.slots;
-          fits = omega (arith, length_insert x (standing m.edges), s.count, p.place.room);
+          fits = omega (arith, length_insert x (standing m.edges), p.place.room);
           rises = rising_insert x (standing m.edges) s.rising (places_absent p);
           valid = λ z k. ⊎_elim (λ e. rw e (named_edge g)) (λ l. s.edges z l) ((member_insert x (standing m.edges) z).0 k);
           room = g.room;

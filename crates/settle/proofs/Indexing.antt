@@ -22,8 +22,7 @@ use Rattle.rows.proofs.Rows.{keeps_then}
 use Rattle.order.specs.Work.{count_numbers}
 use Rattle.order.specs.Counting.{Countable, Counts}
 use Rattle.build.specs.Build.{Buildable, Builds, Saved, list_of}
-use Rattle.build.specs.declared.Built.{Built}
-use Rattle.build.specs.declared.Built.TheVariants.{Entries, TooMany}
+use Rattle.std.proofs.Common.{Option, Some, None, Result, Ok, Err}
 use Rattle.build.proofs.Building.{list_determined}
 use Rattle.settle.specs.Indexing.{Indexable, Indexes}
 
@@ -82,11 +81,11 @@ module _ {vertices longest : ℕ} {edges index work : List ℕ} (b : Indexable v
       work = omega (arith, length_front work part count_numbers e, b.room);
     }
 
-    pub indexes : {index' work' : List ℕ} {r : Built} → Builds g order' index (part ++ drop count_numbers work) index' work' r → Indexes g index work index' work' r
+    pub indexes : {index' work' : List ℕ} {r : Option ℕ} → Builds g order' index (part ++ drop count_numbers work) index' work' r → Indexes g index work index' work' r
     indexes {index'} {work'} {r} z =
         let d : list_of g order' ≡ determined g = list_determined g order' (in_order o) in
         record {
-          reply = z.reply ∙ ap (λ (q : List ℕ). cond (ltb (length index) (length q)) TooMany (Entries (length q))) d;
+          reply = z.reply ∙ ap (λ (q : List ℕ). cond (ltb (length index) (length q)) None (Some (length q))) d;
           index_is = z.index_is ∙ ap (λ (q : List ℕ). cond (ltb (length index) (length q)) index (filled (length index) q)) d;
           saved = keeps_then (saved_behind count_numbers part work (omega arith) e (omega (arith, b.room))) z.saved;
         }

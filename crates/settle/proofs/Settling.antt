@@ -10,7 +10,6 @@ use lib.Seq.{length-take-le, get_or-take, get_or-drop, ext_get_or}
 use Rattle.model.specs.Lists.{filled, zeroed}
 use Rattle.model.specs.Edges.{Graph}
 use Rattle.model.specs.Computed.Entries.{determined}
-use Rattle.model.specs.declared.Answer.TheVariants.{Accepted, Refused}
 use Rattle.model.specs.declared.Refusal.TheVariants.{IndexSlots}
 use Rattle.model.proofs.Tests.{test_lt, test_yields, test_fails}
 use Rattle.model.proofs.Lists.{part_all}
@@ -19,29 +18,29 @@ use Rattle.calls.specs.Call.{Size, graph_of, Memory, lent}
 use Rattle.calls.proofs.Change.{settle_fits, settle_short}
 use Rattle.rows.specs.Region.{saved_numbers}
 use Rattle.build.specs.Build.{Saved}
-use Rattle.build.specs.declared.Built.TheVariants.{Entries, TooMany}
+use Rattle.std.proofs.Common.{Option, Some, None, Result, Ok, Err}
 use Rattle.settle.specs.Indexing.{Indexable, Indexes}
 use Rattle.settle.specs.Settle.{saved_in, Settleable, Settles}
 
 -- ---- what a build replied
 
-one_reply : {A : Type 0} {k : ℕ} → TooMany ≡ Entries k → A
+one_reply : {A : Type 0} {k : ℕ} → None ≡ Some k → A
 one_reply e = absurd (let z : ◌≡◌ {A = ℕ} 0 1 = cc in omega arith)
 
 module _ {g : Graph} {index work index' work' : List ℕ} where
-  short : Indexes g index work index' work' TooMany → (length index < length (determined g)) × (index' ≡ index)
+  short : Indexes g index work index' work' None → (length index < length (determined g)) × (index' ≡ index)
   short x = go (ltb (length index) (length (determined g))) refl x.reply x.index_is
     where
-      go : (t : Bool) → ltb (length index) (length (determined g)) ≡ t → TooMany ≡ cond t TooMany (Entries (length (determined g)))
+      go : (t : Bool) → ltb (length index) (length (determined g)) ≡ t → None ≡ cond t None (Some (length (determined g)))
           → index' ≡ cond t index (filled (length index) (determined g)) → (length index < length (determined g)) × (index' ≡ index)
       go true q r e = (test_yields (test_lt (length index) (length (determined g))) q, e)
       go false q r e = one_reply r
 
-  full : {k : ℕ} → Indexes g index work index' work' (Entries k)
+  full : {k : ℕ} → Indexes g index work index' work' (Some k)
       → (length (determined g) ≤ length index) × (index' ≡ filled (length index) (determined g))
   full {k} x = go (ltb (length index) (length (determined g))) refl x.reply x.index_is
     where
-      go : (t : Bool) → ltb (length index) (length (determined g)) ≡ t → Entries k ≡ cond t TooMany (Entries (length (determined g)))
+      go : (t : Bool) → ltb (length index) (length (determined g)) ≡ t → Some k ≡ cond t None (Some (length (determined g)))
           → index' ≡ cond t index (filled (length index) (determined g))
           → (length (determined g) ≤ length index) × (index' ≡ filled (length index) (determined g))
       go true q r e = one_reply (sym r)
@@ -96,16 +95,16 @@ module _ {h : Size} {n : ℕ} {edges index work : List ℕ} (s : Settleable h n 
 
   module _ {index' work' work'' : List ℕ} (zero : work'' ≡ zeroed work) where
     -- 13: edge memory is as it was saved, index memory as it came
-    pub settles_short : Indexes (graph_of h (take n edges)) index work index' work' TooMany → {edges' : List ℕ}
+    pub settles_short : Indexes (graph_of h (take n edges)) index work index' work' None → {edges' : List ℕ}
         → edges' ≡ take (length edges) (take (length work' - saved_numbers) (drop saved_numbers work'))
-        → Settles h n edges index work (Refused IndexSlots) edges' index' work''
+        → Settles h n edges index work (Err IndexSlots) edges' index' work''
     settles_short x {edges'} e =
         let (fewer, same) = short x in
         settle_short h (take n edges) saved fewer (e ∙ restored x.saved) same zero refl
 
     -- accepted: the index is built
-    pub settles_fits : {k : ℕ} → Indexes (graph_of h (take n edges)) index work index' work' (Entries k)
-        → Settles h n edges index work Accepted edges index' work''
+    pub settles_fits : {k : ℕ} → Indexes (graph_of h (take n edges)) index work index' work' (Some k)
+        → Settles h n edges index work (Ok tt) edges index' work''
     settles_fits x =
         let (fits, is) = full x in
         settle_fits h (take n edges) saved fits (s.zeros ∙ ap (λ (k : ℕ). filled k (take n edges)) (sym saved_size)) is zero refl

@@ -6,8 +6,7 @@ use Rattle.model.specs.Edges.{Graph, Bounds}
 use Rattle.model.specs.Computed.Edges.{edge?}
 use Rattle.model.specs.Computed.Entries.{determined}
 use Rattle.build.specs.Build.{Saved}
-use Rattle.build.specs.declared.Built.{Built}
-use Rattle.build.specs.declared.Built.TheVariants.{Entries, TooMany}
+use Rattle.std.specs.Prelude.{Option, Some, None}
 
 -- a header's numbers and rising edges of its graph; work memory has room for a build
 pub record Indexable (vertices longest : ℕ) (edges index work : List ℕ) : Type 0 where
@@ -18,7 +17,7 @@ pub record Indexable (vertices longest : ℕ) (edges index work : List ℕ) : Ty
   pub room : least_work + length index ≤ length work
 
 -- the entries with zeros behind if they fit, else index memory as it was; saved edge memory is kept
-pub record Indexes (g : Graph) (index work index' work' : List ℕ) (r : Built) : Type 0 where
-  pub reply : r ≡ cond (ltb (length index) (length (determined g))) TooMany (Entries (length (determined g)))
+pub record Indexes (g : Graph) (index work index' work' : List ℕ) (r : Option ℕ) : Type 0 where
+  pub reply : r ≡ cond (ltb (length index) (length (determined g))) None (Some (length (determined g)))
   pub index_is : index' ≡ cond (ltb (length index) (length (determined g))) index (filled (length index) (determined g))
   pub saved : Saved work work'

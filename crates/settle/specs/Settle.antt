@@ -1,11 +1,11 @@
 -- Settling a change that is tried: edge memory holds the wanted edges already, and work memory keeps what it held before.
-use Rattle.std.specs.Prelude.{◌≡◌, true, List, ℕ, ◌+◌, ◌≤◌, length, take, drop}
+use Rattle.std.specs.Prelude.{◌≡◌, Result, true, List, ℕ, ◌+◌, ◌≤◌, length, take, drop}
 use Rattle.model.specs.Limits.{most_edges, least_work}
 use Rattle.model.specs.Lists.{◌∈◌, Rising, filled}
 use Rattle.model.specs.Edges.{Bounds}
 use Rattle.model.specs.Replies.{answer_of}
 use Rattle.model.specs.Computed.Edges.{edge?}
-use Rattle.model.specs.declared.Answer.{Answer}
+use Rattle.model.specs.declared.Refusal.{Refusal}
 use Rattle.memory.specs.Widths.{Narrow}
 use Rattle.calls.specs.Call.{Size, lent, Meets}
 use Rattle.calls.specs.Change.{settle}
@@ -33,6 +33,6 @@ pub record Settleable (size : Size) (n : ℕ) (edges index work : List ℕ) : Ty
   pub narrow : Narrow (saved_in work edges)
 
 -- the answer and memory afterwards are those of settling, from the edge memory that was saved
-abbrev pub Settles : (size : Size) (n : ℕ) (edges index work : List ℕ) (r : Answer) (edges' index' work' : List ℕ) → Type 0
+abbrev pub Settles : (size : Size) (n : ℕ) (edges index work : List ℕ) (r : Result (Unit {0}) Refusal) (edges' index' work' : List ℕ) → Type 0
 Settles size n edges index work r edges' index' work' =
     Meets (settle size (take n edges) (lent (saved_in work edges) index work)) (answer_of r) (lent edges' index' work')

@@ -3,12 +3,12 @@
 #![tactic(auto)]
 
 ghost use Rattle.std.specs.Prelude.{◌+◌, ◌≤◌, length};
+ghost use Rattle.calls.specs.Call.{graph_of};
 ghost use Rattle.rows.specs.Region.{saved_numbers};
 ghost use Rattle.settle.specs.Indexing.{Indexable, Indexes};
 ghost use Rattle.settle.specs.Settle.{Saves, Settleable, Settles};
 
-use build::Built;
-use model::{Answer, MOST_VERTICES, Refusal};
+use model::{MOST_VERTICES, Refusal, Size};
 use rows::SAVED;
 
 // Saves edge memory in work memory, before a change is tried.
@@ -19,45 +19,35 @@ pub fn save(edges: &[u32], work: &mut [u64])
     memory::widen(edges, &mut work[SAVED..]);
 }
 
-// Builds the index that the edges determine, in the access order counted. Work memory holds anything afterwards, except that the numbers in
-// which edge memory is saved are kept.
-fn index_edges(
-    vertices: u32,
-    longest: u32,
-    edges: &[u32],
-    index: &mut [u64],
-    work: &mut [u64],
-) -> Built
-    requires { Indexable vertices longest edges.now index.old work.old }
-    ensures { Indexes (record { vertices = vertices; longest = longest; edges = edges.now })
-        index.old work.old index.new work.new result }
+// Builds the index that the edges determine, in the access order counted: how many entries it has, if they fit. Work memory holds anything
+// afterwards, except that the numbers in which edge memory is saved are kept.
+fn index_edges(size: Size, edges: &[u32], index: &mut [u64], work: &mut [u64]) -> Option<usize>
+    requires { Indexable size.vertices size.longest edges.now index.old work.old }
+    ensures { Indexes (graph_of size edges.now) index.old work.old index.new work.new result }
 {
     let mut order = [0u8; MOST_VERTICES];
-    order::counted(vertices, edges, &mut work[..order::ROOM], &mut order);
-    build::build(vertices, longest, edges, &order, index, work)
+    order::counted(size.vertices, edges, &mut work[..order::ROOM], &mut order);
+    build::build(size, edges, &order, index, work)
 }
 
 // Settles a change that is tried: edge memory holds the n wanted edges, and work memory from SAVED on what edge memory held before.
 pub fn settle(
-    vertices: u32,
-    longest: u32,
+    size: Size,
     n: usize,
     edges: &mut [u32],
     index: &mut [u64],
     work: &mut [u64],
-) -> Answer
-    requires { Settleable (record { vertices = vertices; longest = longest }) n edges.old index.old work.old }
-    ensures { Settles (record { vertices = vertices; longest = longest }) n edges.old index.old work.old
-        result edges.new index.new work.new }
+) -> Result<(), Refusal>
+    requires { Settleable size n edges.old index.old work.old }
+    ensures { Settles size n edges.old index.old work.old result edges.new index.new work.new }
 {
-    let built = index_edges(vertices, longest, &edges[..n], index, work);
-    let answer = match built {
-        Built::TooMany => {
-            memory::narrow(edges, &work[SAVED..]);
-            Answer::Refused(Refusal::IndexSlots)
-        }
-        Built::Entries(_) => Answer::Accepted,
-    };
-    memory::clear_u64(work);
-    answer
+    let built = index_edges(size, &edges[..n], index, work);
+    if built.is_none() {
+        memory::narrow(edges, &work[SAVED..]);
+    }
+    work.fill(0);
+    match built {
+        Some(_) => Ok(()),
+        None => Err(Refusal::IndexSlots),
+    }
 }

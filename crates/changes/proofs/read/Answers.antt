@@ -1,47 +1,49 @@
 -- `changes::read` meets its contract: a refusal leaves memory alone; else edge memory is saved, filled from the card, and settled.
-use mathlib.Core.Path.{refl, sym}
+use mathlib.Core.Path.{◌≡◌, refl, sym}
 use native.Mathlib.Omega.{arith}
 use lib.ListN.{drop}
+use Rattle.std.proofs.Common.{rules, Err}
 use Rattle.model.specs.Limits.{head_bytes}
-use Rattle.model.proofs.Replies.{number_some}
 use Rattle.calls.specs.Call.{lent}
 use Rattle.calls.specs.Card.{edges_of}
 use Rattle.changes.proofs.Trying.{Wanted, Tried, save_room, settleable, settled}
 use Rattle.changes.proofs.Reading.{read_fillable, read_wanted, read_leaves, refused_leaves}
 use Rattle.changes.proofs.read.Goals as goal
+use Rattle.changes.proofs.read.Goals.{In_ok-layout, After-fill}
 
-pub save-requires : goal.save-requires
-save-requires c =
-    let wanted : Wanted (record { vertices = c.in-Holds.vertices; longest = c.in-Holds.longest }) (edges_of (drop head_bytes c.args.card.now)) (lent c.args.edges.now c.args.index.now c.args.work.now) c.in-Holds.n = read_wanted c.in-Holds.ensures (omega (arith, c.type_inv.card 5)) in
-    save_room wanted
+wanted : (c : In_ok-layout) → Wanted c.in_ok-layout.layout.size (edges_of (drop head_bytes c.args.card.now))
+    (lent c.args.edges.now c.args.index.now c.args.work.now) c.in_ok-layout.layout.edges
+wanted c = read_wanted c.in_ok-layout.ensures (omega (arith, c.type_inv.card 5))
 
-pub fill-requires : goal.fill-requires
-fill-requires c = read_fillable c.in-Holds.ensures
-
-pub settle-answer-requires : goal.settle-answer-requires
-settle-answer-requires c =
-    let tried : Tried (edges_of (drop head_bytes c.args.card.now)) (lent c.args.edges.now c.args.index.now c.args.work.now) c.fill.new.edges c.save.new.work = record {
-      edges_are = c.fill.ensures;
-      saves = c.save.ensures;
-    } in
-    let wanted : Wanted (record { vertices = c.in-Holds.vertices; longest = c.in-Holds.longest }) (edges_of (drop head_bytes c.args.card.now)) (lent c.args.edges.now c.args.index.now c.args.work.now) c.in-Holds.n = read_wanted c.in-Holds.ensures (omega (arith, c.type_inv.card 5)) in
-    settleable wanted tried
+tried : (c : After-fill) → Tried (edges_of (drop head_bytes c.args.card.now)) (lent c.args.edges.now c.args.index.now c.args.work.now) c.fill.new.edges c.save.new.work
+tried c = record { edges_are = c.fill.ensures; saves = c.save.ensures }
 
 -- refused by the checks
-pub returns-in-Refused : goal.returns-in-Refused
-returns-in-Refused c =
-    let r = c.in-Refused.refusal in
-    record {
-      meets = refused_leaves _ _ r c.in-Refused.ensures;
-      size = λ e. absurd (omega (arith, e, number_some r));
-    }
+pub returns-in_err-layout : goal.returns-in_err-layout
+returns-in_err-layout c =
+    let r = c.in_err-layout.field-0.0 in
+    let k : c.from_residual.result ≡ Err r = search rules in
+    rw k (refused_leaves _ _ r c.in_err-layout.ensures)
 
-pub returns-in-Holds : goal.returns-in-Holds
-returns-in-Holds c =
-    let tried : Tried (edges_of (drop head_bytes c.args.card.now)) (lent c.args.edges.now c.args.index.now c.args.work.now) c.fill.new.edges c.save.new.work = record {
-      edges_are = c.fill.ensures;
-      saves = c.save.ensures;
-    } in
-    let wanted : Wanted (record { vertices = c.in-Holds.vertices; longest = c.in-Holds.longest }) (edges_of (drop head_bytes c.args.card.now)) (lent c.args.edges.now c.args.index.now c.args.work.now) c.in-Holds.n = read_wanted c.in-Holds.ensures (omega (arith, c.type_inv.card 5)) in
-    let p = c.in-Holds.ensures in
-    record { meets = read_leaves p (settled wanted tried refl c.settle-answer.ensures); size = λ _. sym p.size_is }
+pub save-requires : goal.save-requires
+save-requires c = save_room (wanted (goal.at.save-requires c).In_ok-layout)
+
+pub fill-requires : goal.fill-requires
+fill-requires c = read_fillable c.in_ok-layout.ensures
+
+pub settle-requires : goal.settle-requires
+settle-requires c = settleable (wanted (goal.at.settle-requires c).In_ok-layout) (tried (goal.at.settle-requires c).After-fill)
+
+-- refused as the entries do not fit
+pub returns-in_err-settle : goal.returns-in_err-settle
+returns-in_err-settle c =
+    let r = c.in_err-settle.field-0.0 in
+    let k : c.from_residual-in_err-settle.result ≡ Err r = search rules in
+    rw k
+    (read_leaves c.in_ok-layout.ensures
+    (settled (wanted (goal.at.returns-in_err-settle c).In_ok-layout) (tried (goal.at.returns-in_err-settle c).After-fill) refl c.in_err-settle.ensures))
+
+pub returns : goal.returns
+returns c =
+    let p = c.in_ok-layout.ensures in
+    (read_leaves p (settled (wanted (goal.at.returns c).In_ok-layout) (tried (goal.at.returns c).After-fill) refl c.in_ok-settle.ensures), sym p.size_is)

@@ -1,51 +1,48 @@
 -- `changes::remove` meets its contract: a refusal leaves memory alone; else edge memory is saved, the removal made and settled.
-use mathlib.Core.Path.{refl, ap, ◌∙◌}
+use mathlib.Core.Path.{◌≡◌, refl, ap, ◌∙◌}
 use Prim.Native.Nat.{ℕ}
 use native.Mathlib.Omega.{arith}
 use lib.ListN.{length}
+use Rattle.std.proofs.Common.{rules, Err}
 use Rattle.model.specs.Lists.{filled}
 use Rattle.model.specs.Edges.{edge_number, standing}
 use Rattle.model.specs.Computed.Edges.{remove_edge}
 use Rattle.calls.specs.Call.{lent}
-use Rattle.named.proofs.Naming.{numbered}
 use Rattle.changes.proofs.Trying.{Tried, save_room, settleable, settled}
 use Rattle.changes.proofs.Calls.{remove_stops, remove_wanted, remove_leaves}
 use Rattle.changes.proofs.remove.Goals as goal
+use Rattle.changes.proofs.remove.Goals.{After-remove}
+
+-- the wanted edges stand
+tried : (c : After-remove) → Tried (remove_edge (edge_number c.args.edge.from c.args.edge.label c.args.edge.to) (standing c.args.edges.now))
+    (lent c.args.edges.now c.args.index.now c.args.work.now) c.remove.new.edges c.save.new.work
+tried c =
+    record {
+      edges_are =
+          c.remove.ensures
+          ∙ ap (λ (x : ℕ). filled (length c.args.edges.now) (remove_edge x (standing c.args.edges.now))) c.in_ok-place.ensures.there;
+      saves = c.save.ensures;
+    }
+
+pub returns-in_err-place : goal.returns-in_err-place
+returns-in_err-place c =
+    let r = c.in_err-place.field-0.0 in
+    let k : c.from_residual.result ≡ Err r = search rules in
+    rw k (remove_stops _ _ _ _ _ r c.in_err-place.ensures)
 
 pub save-requires : goal.save-requires
-save-requires c = save_room (remove_wanted c.in-At.ensures)
-
-pub edge_number-requires : goal.edge_number-requires
-edge_number-requires c = numbered c.in-At.ensures.passes
+save-requires c = save_room (remove_wanted c.in_ok-place.ensures)
 
 pub remove-requires : goal.remove-requires
-remove-requires c = rw c.edge_number.ensures c.in-At.ensures.place
+remove-requires c = c.in_ok-place.ensures.place
 
-pub overflow_sub-n : goal.overflow_sub-n
-overflow_sub-n c = omega (arith, c.in-At.ensures.place.inside)
+pub overflow_sub-place : goal.overflow_sub-place
+overflow_sub-place c = omega (arith, c.in_ok-place.ensures.place.inside, c.in_ok-place.ensures.passes.count)
 
 pub settle-requires : goal.settle-requires
-settle-requires c =
-    let tried : Tried (remove_edge (edge_number c.args.from c.args.label c.args.to) (standing c.args.edges.now)) (lent c.args.edges.now c.args.index.now c.args.work.now) c.remove.new.edges c.save.new.work = let m = (lent c.args.edges.now c.args.index.now c.args.work.now) in
-    record {
-      edges_are =
-          c.remove.ensures
-          ∙ ap (λ (x : ℕ). filled (length m.edges) (remove_edge x (standing m.edges))) c.edge_number.ensures;
-      saves = c.save.ensures;
-    } in
-    settleable (remove_wanted c.in-At.ensures) tried
+settle-requires c = settleable (remove_wanted c.in_ok-place.ensures) (tried (goal.at.settle-requires c).After-remove)
 
-pub returns-in-Refused : goal.returns-in-Refused
-returns-in-Refused c = remove_stops _ _ _ _ _ c.in-Refused.refusal c.in-Refused.ensures
-
-pub returns-in-At : goal.returns-in-At
-returns-in-At c =
-    let tried : Tried (remove_edge (edge_number c.args.from c.args.label c.args.to) (standing c.args.edges.now)) (lent c.args.edges.now c.args.index.now c.args.work.now) c.remove.new.edges c.save.new.work = let m = (lent c.args.edges.now c.args.index.now c.args.work.now) in
-    record {
-      edges_are =
-          c.remove.ensures
-          ∙ ap (λ (x : ℕ). filled (length m.edges) (remove_edge x (standing m.edges))) c.edge_number.ensures;
-      saves = c.save.ensures;
-    } in
-    let p = c.in-At.ensures in
-    remove_leaves p (settled (remove_wanted p) tried refl c.settle.ensures)
+pub returns : goal.returns
+returns c =
+    let p = c.in_ok-place.ensures in
+    remove_leaves p (settled (remove_wanted p) (tried (goal.at.returns c).After-remove) refl c.settle.ensures)
