@@ -11,7 +11,7 @@ use Rattle.model.specs.Build.Suffixes.{Leaf, Some as Below}
 use Rattle.model.proofs.Suffixes.{some_none, some_up, some_more, leaves_apart}
 use Rattle.rows.proofs.Rows.{keeps_cell}
 use Rattle.staging.proofs.Adding.{stages_taken, stages_none, stages_as, stages_then, stages_over, stages_within}
-use Rattle.suffixes.specs.Suffixes.{PatternEntry, word_of, base_of, ChildRow, LeafStageable, LeafStages, LeavesStage}
+use Rattle.suffixes.specs.Suffixes.{PatternEntry, base_of, ChildRow, LeafStageable, LeafStages, LeavesStage}
 use Rattle.suffixes.proofs.Entries.{one_pattern}
 use Rattle.suffixes.proofs.Leafing.{stageable_kept}
 
@@ -20,23 +20,20 @@ pub if_any : (r : Option ℕ) {P : Type 0} → P → OnSome r P
 if_any None p = tt
 if_any (Some n) p = p
 
-module _ {edges slots digits w : List ℕ} {d starts : ℕ} {live : List ℕ} {longest cnt : ℕ}
-    (l : LeafStageable edges slots digits w d starts live longest cnt) where
-  abbrev word : List ℕ
-  word = word_of digits d
-
+module _ {edges slots word w : List ℕ} {starts : ℕ} {live : List ℕ} {longest cnt : ℕ}
+    (l : LeafStageable edges slots word w starts live longest cnt) where
   -- the entries with one of the first c labels before the word, staged
   abbrev pub LeavesTo : ℕ → List ℕ → Option ℕ → Type 0
-  LeavesTo c w' r = LeavesStage edges digits w d c (Below c (Leaf longest (PatternEntry edges) word)) cnt w' r
+  LeavesTo c w' r = LeavesStage edges word w c (Below c (Leaf longest (PatternEntry edges) word)) cnt w' r
 
   pub leaves_none : LeavesTo 0 w (Some cnt)
   leaves_none = record { stages = stages_none l.taken some_none; children = record { all = λ c h. absurd (omega arith) }; quiet = l.quiet }
 
   module _ {w' : List ℕ} {c n : ℕ} (v : LeavesTo c w' (Some n)) where
-    pub leaves_stageable : {live' : List ℕ} → length edges ≤ length live' → LeafStageable edges slots digits w' d starts live' longest n
+    pub leaves_stageable : {live' : List ℕ} → length edges ≤ length live' → LeafStageable edges slots word w' starts live' longest n
     leaves_stageable listable = stageable_kept l v.stages.keeps (λ q x. x) v.quiet listable (stages_taken v.stages)
 
-    pub leaves_more : {w'' : List ℕ} {r : Option ℕ} → LeafStages edges digits w' d c (Leaf longest (PatternEntry edges) word c) n w'' r
+    pub leaves_more : {w'' : List ℕ} {r : Option ℕ} → LeafStages edges word w' c (Leaf longest (PatternEntry edges) word c) n w'' r
         → LeavesTo (c + 1) w'' r
     leaves_more {w''} {r} f =
         record {
@@ -48,14 +45,14 @@ module _ {edges slots digits w : List ℕ} {d starts : ℕ} {live : List ℕ} {l
           quiet = f.quiet;
         }
       where
-        child : (x : ℕ) → x < c + 1 → ChildRow edges word w'' x (base_of d + x)
+        child : (x : ℕ) → x < c + 1 → ChildRow edges word w'' x (base_of word + x)
         child x k = elim (dec_lt x c) [
           | yes i ↦ record {
             has = λ a t j trail.
-                keeps_cell f.stages.keeps (base_of d + x) (record { least = omega arith; most = omega arith }) a j
+                keeps_cell f.stages.keeps (base_of word + x) (record { least = omega arith; most = omega arith }) a j
                 ∙ (v.children.all x i).has a t j trail;
           }
-          | no i ↦ let e : c ≡ x = omega arith in subst (λ (y : ℕ). ChildRow edges word w'' y (base_of d + y)) e f.child
+          | no i ↦ let e : c ≡ x = omega arith in subst (λ (y : ℕ). ChildRow edges word w'' y (base_of word + y)) e f.child
         ]
 
     pub leaves_all : c ≤ most_label → most_label ≤ c → LeavesTo most_label w' (Some n)

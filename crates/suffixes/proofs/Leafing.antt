@@ -1,16 +1,15 @@
 -- The entries with one label before a word: its edges gathered, its row filled, and the entries staged.
-use mathlib.Core.Path.{◌≡◌, sym, ap, ◌∙◌}
+use mathlib.Core.Path.{◌≡◌, sym, ◌∙◌}
 use mathlib.Core.Bool.{true, false}
 use mathlib.Core.Logic.Iff
 use mathlib.Core.Logic.{◌↔◌}
 use mathlib.Core.List.Memᴰ
 use mathlib.Core.List.{List, [], ◌∷◌}
-use Prim.Native.Nat.{ℕ, suc, ◌+◌, ◌-◌, ◌≤◌, ◌<◌}
+use Prim.Native.Nat.{ℕ, suc, ◌+◌, ◌*◌, ◌≤◌, ◌<◌}
 use native.Mathlib.Omega.{arith}
-use lib.ListN.{length, take, drop, length-drop}
-use lib.Seq.{take_all}
+use lib.ListN.{length, take}
 use Rattle.std.specs.Prelude.{Option, Some}
-use Rattle.model.specs.Limits.{most_vertices, most_label, most_longest}
+use Rattle.model.specs.Limits.{most_vertices, most_label}
 use Rattle.model.specs.Lists.{◌∈◌}
 use Rattle.model.specs.Edges.{to_of}
 use Rattle.model.specs.Patterns.{Keyed, code}
@@ -21,7 +20,7 @@ use Rattle.model.proofs.Tests.{test_yields, test_fails}
 use Rattle.model.proofs.Patterns.{test_own, code_below}
 use Rattle.model.proofs.Hubs.{entry_by_as}
 use Rattle.edges.specs.Grouped.{section}
-use Rattle.rows.specs.Region.{step_rows, parent_rows}
+use Rattle.rows.specs.Region.{step_rows, parent_rows, child_rows}
 use Rattle.rows.specs.Rows.{cell, KeepsRows, InRows, Empty, Becomes}
 use Rattle.rows.proofs.Rows.{keeps_cell, keeps_row, keeps_empty}
 use Rattle.model.proofs.Plus.{plus_as}
@@ -32,15 +31,15 @@ use Rattle.steps.specs.Filling.{Outgoing, Starting, LeadsInto, Gatherable, Gathe
 use Rattle.parent_rows.proofs.Trails.{trail_edge, edge_trail}
 use Rattle.steps.proofs.Live.{Via, Started, section_fits, section_outgoing, section_leads, live_outgoing, live_via}
 use Rattle.pattern_entries.specs.Pattern.{Led, PatternStageable, PatternStages, LedEntry}
-use Rattle.suffixes.specs.Suffixes.{Spans, PatternEntry, word_of, base_of, Child, ChildRow, LeafStageable, LeafStages}
+use Rattle.suffixes.specs.Suffixes.{Spans, PatternEntry, base_of, ChildRow, LeafStageable, LeafStages}
 use Rattle.suffixes.proofs.Entries.{no_entry}
-use Rattle.suffixes.proofs.Children.{word_length, child_labels}
+use Rattle.suffixes.proofs.Children.{child_labels}
 
-module _ {edges slots digits w : List ℕ} {d starts : ℕ} {live : List ℕ} {longest cnt : ℕ}
-    (l : LeafStageable edges slots digits w d starts live longest cnt) where
+module _ {edges slots word w : List ℕ} {starts : ℕ} {live : List ℕ} {longest cnt : ℕ}
+    (l : LeafStageable edges slots word w starts live longest cnt) where
   -- what staging needs is kept, if the parent's rows and those before the children's are
-  pub stageable_kept : {w' live' : List ℕ} {K : ℕ → Type 0} {n : ℕ} → KeepsRows w w' K → ((q : ℕ) → InRows parent_rows (base_of d) q → K q)
-      → Empty w' step_rows most_vertices → length edges ≤ length live' → HasTaken w' n → LeafStageable edges slots digits w' d starts live' longest n
+  pub stageable_kept : {w' live' : List ℕ} {K : ℕ → Type 0} {n : ℕ} → KeepsRows w w' K → ((q : ℕ) → InRows parent_rows (base_of word) q → K q)
+      → Empty w' step_rows most_vertices → length edges ≤ length live' → HasTaken w' n → LeafStageable edges slots word w' starts live' longest n
   stageable_kept k f quiet listable h =
       record {
         grouped = l.grouped;
@@ -63,13 +62,10 @@ module _ {edges slots digits w : List ℕ} {d starts : ℕ} {live : List ℕ} {l
 none_taken : (n : ℕ) (l : List ℕ) {x : ℕ} → n ≡ 0 → x ∈ take n l → ⊥
 none_taken n l z m = Memᴰ.not-nil (rw z at m)
 
-module _ {edges slots digits w : List ℕ} {d starts : ℕ} {live : List ℕ} {longest cnt c : ℕ}
-    (l : LeafStageable edges slots digits w d starts live longest cnt) (small : c < most_label) where
-  abbrev word : List ℕ
-  word = word_of digits d
-
+module _ {edges slots word w : List ℕ} {starts : ℕ} {live : List ℕ} {longest cnt c : ℕ}
+    (l : LeafStageable edges slots word w starts live longest cnt) (small : c < most_label) where
   -- its row is before those of more labels
-  deep : base_of d + c < base_of longest
+  deep : base_of word + c < child_rows + most_label * longest
   deep = omega (arith, l.chosen.more)
 
   -- the edges that are cut out are those of the label, if they have its number
@@ -88,17 +84,9 @@ module _ {edges slots digits w : List ℕ} {d starts : ℕ} {live : List ℕ} {l
   keyed =
       record {
         long = omega arith;
-        short = omega (arith, word_length l.chosen, l.chosen.more);
+        short = omega (arith, l.chosen.more);
         labels = child_labels l.chosen small;
       }
-
-  -- the labels of the pattern stand at the end of the child's digits
-  pub part_word : {next : List ℕ} → Child digits d c next
-      → take (most_longest - (most_longest - 1 - d)) (drop (most_longest - 1 - d) next) ≡ suc c ∷ word
-  part_word {next} f =
-      let e : most_longest - 1 - d ≡ most_longest - suc d = omega (arith, l.chosen.more, l.chosen.most) in
-      take_all (most_longest - (most_longest - 1 - d)) (drop (most_longest - 1 - d) next) (omega (arith, length-drop (most_longest - 1 - d) next, f.size))
-      ∙ (ap (λ (i : ℕ). drop i next) e ∙ f.word)
 
   -- ---- the edges gathered
   module _ {live' : List ℕ} {n : ℕ} (g : Gathers (section edges slots c) w starts live' n) where
@@ -123,8 +111,8 @@ module _ {edges slots digits w : List ℕ} {d starts : ℕ} {live : List ℕ} {l
     none_gathered z = no_entry (suc c ∷ word) (λ a t k trail. none_taken n live' z (spelled_from a t trail).listed) []
 
     -- ---- and the child's row made of them
-    module _ {w₁ : List ℕ} (b : Becomes w w₁ (base_of d + c) (Starting gathered)) where
-      filled : ChildRow edges word w₁ c (base_of d + c)
+    module _ {w₁ : List ℕ} (b : Becomes w w₁ (base_of word + c) (Starting gathered)) where
+      filled : ChildRow edges word w₁ c (base_of word + c)
       filled = record { has = λ a t k trail. b.row.all a k (spelled_from a t trail) }
 
       taken : HasTaken w₁ cnt
@@ -134,25 +122,25 @@ module _ {edges slots digits w : List ℕ} {d starts : ℕ} {live : List ℕ} {l
       quiet = keeps_empty b.keeps (λ q x e. omega (arith, x.most)) l.quiet
 
       -- staged since the row was made
-      since : {K P : ℕ → Type 0} {w₂ : List ℕ} {r : Option ℕ} → ((q : ℕ) → InRows parent_rows (base_of d + c) q → K q) → Stages w₁ K P cnt w₂ r
-          → Stages w (InRows parent_rows (base_of d + c)) P cnt w₂ r
+      since : {K P : ℕ → Type 0} {w₂ : List ℕ} {r : Option ℕ} → ((q : ℕ) → InRows parent_rows (base_of word + c) q → K q) → Stages w₁ K P cnt w₂ r
+          → Stages w (InRows parent_rows (base_of word + c)) P cnt w₂ r
       since f s =
           stages_since (stages_within s f) b.keeps (λ q x e. omega (arith, x.most)) (λ q h e. omega (arith, deep, l.chosen.most))
 
       leaf_none : ((e : ℕ) → Leaf longest (PatternEntry edges) word c e → ⊥)
-          → LeafStages edges digits w d c (Leaf longest (PatternEntry edges) word c) cnt w₁ (Some cnt)
+          → LeafStages edges word w c (Leaf longest (PatternEntry edges) word c) cnt w₁ (Some cnt)
       leaf_none none = record { stages = since (λ q x. x) (stages_none taken none); child = filled; quiet = quiet }
 
       -- no edge is gathered
-      pub leaf_empty : n ≡ 0 → LeafStages edges digits w d c (Leaf longest (PatternEntry edges) word c) cnt w₁ (Some cnt)
+      pub leaf_empty : n ≡ 0 → LeafStages edges word w c (Leaf longest (PatternEntry edges) word c) cnt w₁ (Some cnt)
       leaf_empty z = leaf_none (λ e p. none_gathered z e p.holds)
 
       -- the pattern is no minimum repeat
-      pub leaf_folds : own? (suc c ∷ word) ≡ false → LeafStages edges digits w d c (Leaf longest (PatternEntry edges) word c) cnt w₁ (Some cnt)
+      pub leaf_folds : own? (suc c ∷ word) ≡ false → LeafStages edges word w c (Leaf longest (PatternEntry edges) word c) cnt w₁ (Some cnt)
       leaf_folds e = leaf_none (λ x p. test_fails (test_own (suc c ∷ word) keyed.long) e p.pattern.own)
 
       -- ---- the edges and the word lead where the pattern does
-      kept : LeafStageable edges slots digits w₁ d starts live longest cnt
+      kept : LeafStageable edges slots word w₁ starts live longest cnt
       kept = stageable_kept l b.keeps (λ q x e. omega (arith, x.most)) quiet l.listable taken
 
       -- row `starts` is as it was
@@ -184,7 +172,7 @@ module _ {edges slots digits w : List ℕ} {d starts : ℕ} {live : List ℕ} {l
           via : t < most_vertices → LeadsInto gathered w₁ parent_rows a t ↔ Via edges w₁ parent_rows a (suc c) t
           via k = live_via l.grouped c small gathers (started kept) k
 
-      pub pattern_stageable : {m : ℕ} → m ≡ code (suc c ∷ word) → PatternStageable gathered w₁ (base_of d + c) m cnt
+      pub pattern_stageable : {m : ℕ} → m ≡ code (suc c ∷ word) → PatternStageable gathered w₁ (base_of word + c) m cnt
       pattern_stageable {m} e =
           record {
             outgoing = outgoing;
@@ -198,14 +186,14 @@ module _ {edges slots digits w : List ℕ} {d starts : ℕ} {live : List ℕ} {l
 
       pub leaf_stages : {m : ℕ} → m ≡ code (suc c ∷ word) → own? (suc c ∷ word) ≡ true → {w₂ : List ℕ} {r : Option ℕ}
           → PatternStages w₁ (LedEntry gathered w₁ m) cnt w₂ r
-          → LeafStages edges digits w d c (Leaf longest (PatternEntry edges) word c) cnt w₂ r
+          → LeafStages edges word w c (Leaf longest (PatternEntry edges) word c) cnt w₂ r
       leaf_stages {m} e own {w₂} {r} p =
           record {
             stages = since (λ q x. record { least = x.least; most = omega (arith, x.most, deep, l.chosen.most) })
                 (stages_as (rw e at p.stages) (λ x. (there x, back x)));
             child = record {
               has = λ a t k trail.
-                  keeps_cell p.stages.keeps (base_of d + c) (record { least = omega arith; most = omega (arith, deep, l.chosen.most) }) a k
+                  keeps_cell p.stages.keeps (base_of word + c) (record { least = omega arith; most = omega (arith, deep, l.chosen.most) }) a k
                   ∙ filled.has a t k trail;
             };
             quiet = p.quiet;

@@ -1,14 +1,13 @@
 -- The rows of one word: filled with where it leads, used, and emptied.
-use mathlib.Core.Path.{◌≡◌, ◌∙◌}
+use mathlib.Core.Path.{◌∙◌}
 use mathlib.Core.List.{List}
-use Prim.Native.Nat.{ℕ, ◌+◌, ◌-◌, ◌≤◌}
+use Prim.Native.Nat.{ℕ, ◌+◌, ◌≤◌}
 use native.Mathlib.Omega.{arith}
 use native.Mathlib.Decide.{dec_lt}
-use lib.ListN.{length, take, drop}
-use lib.Seq.{take_all}
+use lib.ListN.{length}
 use Rattle.std.specs.Prelude.{Option}
 use Rattle.std.proofs.lemmas.Option.{IfSome_then}
-use Rattle.model.specs.Limits.{most_vertices, most_label, most_longest}
+use Rattle.model.specs.Limits.{most_vertices, most_label}
 use Rattle.model.specs.Build.Suffixes.{Leaf, Some as Below}
 use Rattle.rows.specs.Region.{step_rows, parent_rows, saved_rows}
 use Rattle.rows.specs.Rows.{InRows, Empty}
@@ -17,35 +16,24 @@ use Rattle.staging.specs.Stage.{Stages}
 use Rattle.staging.proofs.Adding.{stages_since, stages_kept, stages_within}
 use Rattle.steps.specs.Filling.{Clears}
 use Rattle.parent_rows.specs.Steps.{Word, ParentFillable, FillsParent, ParentClearable}
-use Rattle.suffixes.specs.Suffixes.{PatternEntry, word_of, base_of, NodeStageable, LeafStageable, LeavesStage, LevelStages}
-use Rattle.suffixes.proofs.Children.{word_length}
+use Rattle.suffixes.specs.Suffixes.{PatternEntry, base_of, NodeStageable, LeafStageable, LeavesStage, LevelStages}
 
-module _ {edges slots digits w : List ℕ} {d starts : ℕ} {live : List ℕ} {longest cnt : ℕ}
-    (n : NodeStageable edges slots digits w d starts live longest cnt) where
-  abbrev word : List ℕ
-  word = word_of digits d
+module _ {edges slots word w : List ℕ} {starts : ℕ} {live : List ℕ} {longest cnt : ℕ}
+    (n : NodeStageable edges slots word w starts live longest cnt) where
+  labels : Word word
+  labels = record { short = omega (arith, n.chosen.more, n.chosen.most); labels = n.chosen.labels }
 
-  -- the digits as they are lent
-  abbrev lent : List ℕ
-  lent = take (most_longest - (most_longest - d)) (drop (most_longest - d) digits)
-
-  lent_is : lent ≡ word
-  lent_is = take_all (most_longest - (most_longest - d)) word (omega (arith, word_length n.chosen))
-
-  lent_word : Word lent
-  lent_word = rw lent_is (record { short = omega (arith, word_length n.chosen, n.chosen.more, n.chosen.most); labels = n.chosen.labels })
-
-  pub parent_fillable : ParentFillable edges slots lent w live
-  parent_fillable = record { grouped = n.grouped; word = lent_word; sources = rw lent_is n.sources; quiet = n.quiet; room = n.listable }
+  pub parent_fillable : ParentFillable edges slots word w live
+  parent_fillable = record { grouped = n.grouped; word = labels; sources = n.sources; quiet = n.quiet; room = n.listable }
 
   -- ---- the parent's rows filled
-  module _ {w₁ : List ℕ} (f : FillsParent edges lent w w₁) where
-    pub leaf_stageable : {live' : List ℕ} → length edges ≤ length live' → LeafStageable edges slots digits w₁ d starts live' longest cnt
+  module _ {w₁ : List ℕ} (f : FillsParent edges word w w₁) where
+    pub leaf_stageable : {live' : List ℕ} → length edges ≤ length live' → LeafStageable edges slots word w₁ starts live' longest cnt
     leaf_stageable listable =
         record {
           grouped = n.grouped;
           chosen = n.chosen;
-          parent = rw lent_is at f.parent;
+          parent = f.parent;
           least = n.least;
           before = n.before;
           spelled = λ a t k trail. keeps_cell f.keeps starts (omega (arith, n.least)) a k ∙ n.spelled a t k trail;
@@ -58,12 +46,12 @@ module _ {edges slots digits w : List ℕ} {d starts : ℕ} {live : List ℕ} {l
     abbrev LeafEntries : ℕ → Type 0
     LeafEntries = Below most_label (Leaf longest (PatternEntry edges) word)
 
-    module _ {w₂ : List ℕ} {r : Option ℕ} (v : LeavesStage edges digits w₁ d most_label LeafEntries cnt w₂ r) where
-      pub parent_clearable : ParentClearable edges slots lent w₂
+    module _ {w₂ : List ℕ} {r : Option ℕ} (v : LeavesStage edges word w₁ most_label LeafEntries cnt w₂ r) where
+      pub parent_clearable : ParentClearable edges slots word w₂
       parent_clearable =
           record {
             grouped = n.grouped;
-            word = lent_word;
+            word = labels;
             long = omega (arith, n.taken, f.keeps.len, v.stages.keeps.len);
             parent = record {
               rows = λ a h. keeps_row v.stages.keeps (record { least = omega arith; most = omega arith }) (f.parent.rows a h);
@@ -71,14 +59,14 @@ module _ {edges slots digits w : List ℕ} {d starts : ℕ} {live : List ℕ} {l
           }
 
       -- ---- the parent's rows emptied
-      pub level_stages : {w₃ : List ℕ} → Clears w₂ w₃ parent_rows most_vertices → LevelStages edges digits w d LeafEntries cnt w₃ r
+      pub level_stages : {w₃ : List ℕ} → Clears w₂ w₃ parent_rows most_vertices → LevelStages edges word w LeafEntries cnt w₃ r
       level_stages {w₃} e =
           record {
             stages = stages_since cleared f.keeps (λ q x. x.least) (λ q h. omega arith);
             children = IfSome_then r v.children (λ _ x. record {
               all = λ c k. record {
                 has = λ a t i trail.
-                    keeps_cell e.keeps (base_of d + c) (λ y. omega (arith, y.most)) a i ∙ (x.all c k).has a t i trail;
+                    keeps_cell e.keeps (base_of word + c) (λ y. omega (arith, y.most)) a i ∙ (x.all c k).has a t i trail;
               };
             });
             quiet = record {
@@ -92,8 +80,8 @@ module _ {edges slots digits w : List ℕ} {d starts : ℕ} {live : List ℕ} {l
           first : Empty w₃ step_rows most_vertices
           first = keeps_empty e.keeps (λ q x y. omega (arith, x.most, y.least)) v.quiet
 
-          within : Stages w₁ (InRows saved_rows (base_of d)) LeafEntries cnt w₂ r
+          within : Stages w₁ (InRows saved_rows (base_of word)) LeafEntries cnt w₂ r
           within = stages_within v.stages (λ q x. record { least = omega (arith, x.least); most = x.most })
 
-          cleared : Stages w₁ (InRows saved_rows (base_of d)) LeafEntries cnt w₃ r
+          cleared : Stages w₁ (InRows saved_rows (base_of word)) LeafEntries cnt w₃ r
           cleared = stages_kept within e.keeps (λ q x y. omega (arith, x.least, y.most)) (λ q h y. omega (arith, y.most))

@@ -2,26 +2,82 @@
 // rows say where it leads, the entries with one label before it are staged, and then those with more.
 #![tactic(auto)]
 
-ghost use Rattle.std.specs.Prelude.{◌≡◌, ◌<◌};
+ghost use Rattle.std.specs.Prelude.{◌≡◌, List, [], ◌∷◌, ℕ, suc, ◌+◌, ◌-◌, ◌≤◌, ◌<◌, length, drop};
 ghost use Rattle.model.specs.Limits.{most_label, most_longest};
 ghost use Rattle.model.specs.Patterns.{Keyed};
 ghost use Rattle.model.specs.Computed.Patterns.{own?};
 ghost use Rattle.model.specs.Build.Suffixes.{Leaf, Some, Beyond};
-ghost use Rattle.suffixes.specs.Suffixes.{PatternEntry, word_of, Child, NodeStageable, NodeStages, LeafStageable, LeafStages, LeavesStage, LevelStages};
+ghost use Rattle.suffixes.specs.Suffixes.{PatternEntry, base_of, NodeStageable, NodeStages, LeafStageable, LeafStages, LeavesStage, LevelStages};
 
 use model::{MOST_LABEL, MOST_LONGEST};
+use std::marker::Model;
 
-// The place of the last digit.
-const LAST: usize = MOST_LONGEST - 1;
+// Where patterns are looked for: the edges of a graph, grouped by label, the slots where those of each label begin, and how many labels the
+// longest pattern has.
+#[derive(Clone, Copy)]
+pub struct Search<'a> {
+    pub edges: &'a [u32],
+    pub slots: &'a [usize],
+    pub longest: usize,
+}
 
-// The digits with label c + 1 before the d labels chosen so far.
-fn child(digits: [u8; MOST_LONGEST], d: usize, c: usize) -> [u8; MOST_LONGEST]
-    requires { (d < most_longest) × (c < most_label) }
-    ensures { Child digits d c result }
-{
-    let mut next = digits;
-    next[LAST - d] = (c + 1) as u8;
-    next
+// The labels chosen so far, the last of a pattern: the last `len` of the digits.
+#[derive(Drop)]
+pub struct Word {
+    digits: [u8; MOST_LONGEST],
+    len: usize,
+}
+
+impl Model for Word {
+    ghost Value = { List ℕ };
+
+    ghost view = { λ s. drop (most_longest - s.len) s.digits };
+
+    ghost invariant = { λ s. s.len ≤ most_longest };
+}
+
+impl Word {
+    pub fn empty() -> Word
+        ensures { result ≡ [] }
+    {
+        Word {
+            digits: [0; MOST_LONGEST],
+            len: 0,
+        }
+    }
+
+    fn len(&self) -> usize
+        ensures { result ≡ length self.now }
+    {
+        self.len
+    }
+
+    fn as_slice(&self) -> &[u8]
+        ensures { result.now ≡ self.now }
+    {
+        &self.digits[MOST_LONGEST - self.len..]
+    }
+
+    // The word with label c + 1 before it.
+    fn with(&self, c: usize) -> Word
+        requires { (length self.now < most_longest) × (c < most_label) }
+        ensures { result ≡ suc c ∷ self.now }
+    {
+        let mut digits = self.digits;
+        digits[MOST_LONGEST - 1 - self.len] = (c + 1) as u8;
+        Word {
+            digits,
+            len: self.len + 1,
+        }
+    }
+
+    // The row of label c + 1, of those for one label more.
+    fn child_row(&self, c: usize) -> usize
+        requires { (length self.now < most_longest) × (c < most_label) }
+        ensures { result ≡ base_of self.now + c }
+    {
+        rows::CHILDREN + MOST_LABEL * self.len + c
+    }
 }
 
 // Whether a pattern is its own minimum repeat.
@@ -29,39 +85,34 @@ fn is_own(pattern: &[u8]) -> bool
     requires { Keyed most_longest pattern.now }
     ensures { result ≡ own? pattern.now }
 {
-    let folded = patterns::minimum_repeat(pattern);
-    let length = folded.length;
-    length == pattern.len()
+    patterns::minimum_repeat(pattern).length == pattern.len()
 }
 
 // Fills the row of label c + 1, of those for one label more, and stages, behind the first cnt, the entries whose pattern is that label and the
 // word. Returns how many are staged then, or None if there are more than slots.
 fn leaf(
-    edges: &[u32],
-    slots: &[usize],
-    digits: [u8; MOST_LONGEST],
-    d: usize,
+    search: Search,
+    word: &Word,
     c: usize,
     w: &mut [u64],
     starts: usize,
     live: &mut [u32],
-    longest: usize,
     cnt: usize,
 ) -> Option<usize>
-    requires { LeafStageable edges.now slots.now digits w.old d starts live.old longest cnt × (c < most_label) }
-    ensures { LeafStages edges.now digits w.old d c (Leaf longest (PatternEntry edges.now) (word_of digits d) c) cnt
-        w.new result }
+    requires { LeafStageable search.edges.now search.slots.now word.now w.old starts live.old search.longest cnt × (c < most_label) }
+    ensures { LeafStages search.entry.edges.now word.now w.old c (Leaf search.entry.longest (PatternEntry search.entry.edges.now) word.now c) cnt w.new result }
 {
-    let row = rows::CHILDREN + MOST_LABEL * d + c;
-    let n = steps::gather(steps::labelled(edges, slots, c + 1), w, starts, live);
+    let row = word.child_row(c);
+    let edges = steps::labelled(search.edges, search.slots, c + 1);
+    let n = steps::gather(edges, w, starts, live);
     steps::sources(&live[..n], w, row);
     if n == 0 {
         return Some(cnt);
     }
-    let next = child(digits, d, c);
-    let start = LAST - d;
-    if is_own(&next[start..]) {
-        let code = patterns::code(&next[start..]);
+    let next = word.with(c);
+    let pattern = next.as_slice();
+    if is_own(pattern) {
+        let code = patterns::code(pattern);
         return pattern_entries::stage(&live[..n], w, row, code, cnt);
     }
     Some(cnt)
@@ -69,74 +120,64 @@ fn leaf(
 
 // The same for every label, one after another. Returns as leaf does.
 fn leaves(
-    edges: &[u32],
-    slots: &[usize],
-    digits: [u8; MOST_LONGEST],
-    d: usize,
+    search: Search,
+    word: &Word,
     w: &mut [u64],
-    start: usize,
+    starts: usize,
     live: &mut [u32],
-    longest: usize,
     cnt: usize,
 ) -> Option<usize>
-    requires { LeafStageable edges.now slots.now digits w.old d start live.old longest cnt }
-    ensures { LeavesStage edges.now digits w.old d most_label
-        (Some most_label (Leaf longest (PatternEntry edges.now) (word_of digits d))) cnt w.new result }
+    requires { LeafStageable search.edges.now search.slots.now word.now w.old starts live.old search.longest cnt }
+    ensures { LeavesStage search.entry.edges.now word.now w.old most_label
+        (Some most_label (Leaf search.entry.longest (PatternEntry search.entry.edges.now) word.now)) cnt w.new result }
 {
     let mut n = cnt;
     for c in 0..MOST_LABEL {
-        n = leaf(edges, slots, digits, d, c, w, start, live, longest, n)?;
+        n = leaf(search, word, c, w, starts, live, n)?;
     }
     Some(n)
 }
 
 // Fills the rows of the word and of one label more, stages the entries with one label before the word, and empties the rows of the word.
 fn level(
-    edges: &[u32],
-    slots: &[usize],
-    digits: [u8; MOST_LONGEST],
-    d: usize,
+    search: Search,
+    word: &Word,
     w: &mut [u64],
     starts: usize,
     live: &mut [u32],
-    longest: usize,
     cnt: usize,
 ) -> Option<usize>
-    requires { NodeStageable edges.now slots.now digits w.old d starts live.old longest cnt }
-    ensures { LevelStages edges.now digits w.old d
-        (Some most_label (Leaf longest (PatternEntry edges.now) (word_of digits d))) cnt w.new result }
+    requires { NodeStageable search.edges.now search.slots.now word.now w.old starts live.old search.longest cnt }
+    ensures { LevelStages search.entry.edges.now word.now w.old
+        (Some most_label (Leaf search.entry.longest (PatternEntry search.entry.edges.now) word.now)) cnt w.new result }
 {
-    let start = MOST_LONGEST - d;
-    parent_rows::fill_parent(edges, slots, &digits[start..], w, live);
-    let n = leaves(edges, slots, digits, d, w, starts, live, longest, cnt);
-    parent_rows::clear_parent(edges, slots, &digits[start..], w);
+    let labels = word.as_slice();
+    parent_rows::fill_parent(search.edges, search.slots, labels, w, live);
+    let n = leaves(search, word, w, starts, live, cnt);
+    parent_rows::clear_parent(search.edges, search.slots, labels, w);
     n
 }
 
-// Stages the entries whose patterns have one label or more before the d labels chosen so far. `live` is room for edges.
+// Stages the entries whose patterns have one label or more before the word. `live` is room for edges.
 pub fn node(
-    edges: &[u32],
-    slots: &[usize],
-    digits: [u8; MOST_LONGEST],
-    d: usize,
+    search: Search,
+    word: &Word,
     w: &mut [u64],
     starts: usize,
     live: &mut [u32],
-    longest: usize,
     cnt: usize,
 ) -> Option<usize>
-    requires { NodeStageable edges.now slots.now digits w.old d starts live.old longest cnt }
-    ensures { NodeStages w.old d (Beyond longest (PatternEntry edges.now) (word_of digits d)) cnt w.new result }
+    requires { NodeStageable search.edges.now search.slots.now word.now w.old starts live.old search.longest cnt }
+    ensures { NodeStages w.old word.now (Beyond search.entry.longest (PatternEntry search.entry.edges.now) word.now) cnt w.new result }
 {
-    let mut n = level(edges, slots, digits, d, w, starts, live, longest, cnt)?;
-    if longest <= d + 1 {
+    let mut n = level(search, word, w, starts, live, cnt)?;
+    if search.longest <= word.len() + 1 {
         return Some(n);
     }
     for c in 0..MOST_LABEL {
-        let row = rows::CHILDREN + MOST_LABEL * d + c;
+        let row = word.child_row(c);
         if rows::next(w, row, 0).is_some() {
-            let next = child(digits, d, c);
-            n = node(edges, slots, next, d + 1, w, row, live, longest, n)?;
+            n = node(search, &word.with(c), w, row, live, n)?;
         }
     }
     Some(n)

@@ -3,4 +3,4 @@ use Rattle.suffixes.proofs.Own.{own_length}
 use Rattle.suffixes.proofs.is_own.Goals as goal
 
 pub returns : goal.returns
-returns c = own_length _ _ c.requires c.minimum_repeat-folded.ensures.0
+returns c = own_length _ _ c.requires c.minimum_repeat.ensures.0

@@ -1,9 +1,6 @@
 use native.Mathlib.Omega.{arith}
-use Rattle.suffixes.proofs.Labels.{leaves_none, leaves_stageable, leaves_more, leaves_over, leaves_all}
+use Rattle.suffixes.proofs.Labels.{leaves_stageable, leaves_more, leaves_over, leaves_all}
 use Rattle.suffixes.proofs.leaves.Goals as goal
-
-pub loop-c-init : goal.loop-c-init
-loop-c-init c = leaves_none c.requires
 
 pub leaf-requires : goal.leaf-requires
 leaf-requires c =
