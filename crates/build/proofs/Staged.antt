@@ -1,15 +1,14 @@
 -- The entries of the renumbered graph, staged.
-use mathlib.Core.Path.{refl}
 use mathlib.Core.List.Memᴰ
 use mathlib.Core.List.{List, []}
 use mathlib.Core.Logic.Iff
 use mathlib.Core.Logic.{◌↔◌}
 use Prim.Native.Nat.{ℕ, ◌+◌, ◌≤◌, ◌<◌}
 use native.Mathlib.Omega.{arith}
-use lib.ListN.{length, take, replicate, length-take}
+use lib.ListN.{length, take, length-take}
 use Rattle.std.specs.Prelude.{Option}
-use Rattle.model.specs.Limits.{most_vertices, most_edges, most_label, most_longest}
-use Rattle.model.specs.Lists.{◌∈◌, up_to}
+use Rattle.model.specs.Limits.{most_vertices, most_edges, most_longest}
+use Rattle.model.specs.Lists.{up_to}
 use Rattle.model.specs.Entries.{IsEntry}
 use Rattle.model.specs.Build.Suffixes.{Beyond}
 use Rattle.rows.specs.Region.{step_rows, saved_rows, root_row}
@@ -19,14 +18,10 @@ use Rattle.renumber.specs.Ranked.{Renumbered}
 use Rattle.staging.specs.Stage.{room_of, Stages}
 use Rattle.staging.proofs.Adding.{stages_as, stages_since, stages_within}
 use Rattle.steps.specs.Filling.{Clears}
-use Rattle.suffixes.specs.Suffixes.{PatternEntry, word_of, NodeStageable, NodeStages}
+use Rattle.suffixes.specs.Suffixes.{PatternEntry, NodeStageable, NodeStages}
 use Rattle.suffixes.proofs.Entries.{entries_beyond}
 use Rattle.build.specs.Build.{Buildable}
 use Rattle.build.specs.Staging.{GraphStages}
-
--- no label is chosen
-abbrev blank : List ℕ
-blank = replicate most_longest 0
 
 module _ {vertices longest : ℕ} {edges order w : List ℕ} (s : Buildable vertices longest edges order (room_of w) w)
     {result slots : List ℕ} (q : Renumbered vertices edges order result slots) where
@@ -43,11 +38,11 @@ module _ {vertices longest : ℕ} {edges order w : List ℕ} (s : Buildable vert
   module _ {w₁ w₂ : List ℕ} (c : Clears w w₁ step_rows (most_vertices + most_vertices)) (r : Becomes w₁ w₂ root_row (λ k. k < most_vertices)) where
     -- with any bound on the patterns' length
     pub node_stageable : (live : List ℕ) → most_edges ≤ length live → {k : ℕ} → 1 ≤ k → k ≤ most_longest
-        → NodeStageable renumbered slots blank w₂ 0 root_row live k 0
+        → NodeStageable renumbered slots [] w₂ root_row live k 0
     node_stageable live fits more most =
         record {
           grouped = q.grouped;
-          chosen = record { size = refl; more = more; most = most; labels = none };
+          chosen = record { more = more; most = most; labels = λ c m. absurd (Memᴰ.not-nil m) };
           sources = record { long = omega (arith, r.keeps.len, c.keeps.len, s.work); all = λ i a t l. absurd (omega arith) };
           least = omega arith;
           before = omega arith;
@@ -56,11 +51,8 @@ module _ {vertices longest : ℕ} {edges order w : List ℕ} (s : Buildable vert
           listable = omega (arith, length-take (length edges) result, s.ordered.few, fits);
           taken = omega (arith, r.keeps.len, c.keeps.len, s.work);
         }
-      where
-        none : (c : ℕ) → c ∈ word_of blank 0 → (1 ≤ c) × (c ≤ most_label)
-        none c m = absurd (Memᴰ.not-nil m)
 
-    pub graph_stages : {w₃ : List ℕ} {n : Option ℕ} → NodeStages w₂ 0 (Beyond longest (PatternEntry renumbered) (word_of blank 0)) 0 w₃ n
+    pub graph_stages : {w₃ : List ℕ} {n : Option ℕ} → NodeStages w₂ [] (Beyond longest (PatternEntry renumbered) []) 0 w₃ n
         → GraphStages vertices longest edges order w w₃ n
     graph_stages {w₃} {n} v = record { edges' = renumbered; renumbers = q.renumbers; stages = cleared }
       where

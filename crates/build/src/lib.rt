@@ -7,7 +7,8 @@ ghost use Rattle.staging.specs.Stage.{room_of};
 ghost use Rattle.build.specs.Build.{Buildable, Builds};
 ghost use Rattle.build.specs.Staging.{GraphStages};
 
-use model::{LEAST_WORK, MOST_EDGES, MOST_LONGEST, MOST_VERTICES, Size};
+use model::{LEAST_WORK, MOST_EDGES, MOST_VERTICES, Size};
+use suffixes::{Search, Word};
 
 // How many rows there are of both kinds, the step rows and the parent's behind them.
 const BOTH: usize = MOST_VERTICES + MOST_VERTICES;
@@ -23,17 +24,12 @@ fn stage(size: Size, edges: &[u32], order: &[u8], w: &mut [u64]) -> Option<usize
     let mut live = [0u32; MOST_EDGES];
     steps::clear_rows(w, rows::STEPS, BOTH);
     rows::fill(w, rows::ROOT);
-    suffixes::node(
-        &renumbered[..m],
-        &slots,
-        [0u8; MOST_LONGEST],
-        0,
-        w,
-        rows::ROOT,
-        &mut live,
-        size.longest as usize,
-        0,
-    )
+    let search = Search {
+        edges: &renumbered[..m],
+        slots: &slots,
+        longest: size.longest as usize,
+    };
+    suffixes::node(search, &Word::empty(), w, rows::ROOT, &mut live, 0)
 }
 
 // Fills index memory with the entries that the graph determines with the order, and returns how many they are; None if they do not fit, and
