@@ -13,30 +13,29 @@ use Rattle.query_two.proofs.ask.Goals as goal
 pub returns-in_default : goal.returns-in_default
 returns-in_default c edges work =
     refused_two _ _ _ _ _ c.requires.passed IndexMemory
-    (stop (scans_none _ _ _ (sym c.scan-scanned.ensures ∙ c.in_default.is)))
+    (stop (scans_none _ _ _ (sym c.in_default.ensures)))
 
 -- 12 has passed from here on
-pub slice_bounds-answers_from-end : goal.slice_bounds-answers_from-end
-slice_bounds-answers_from-end c = sym (length-take-le _ c.args.index.now (entered _ _ _ (sym c.scan-scanned.ensures ∙ c.in-Entries.is)).within)
+pub slice_bounds-answers-end : goal.slice_bounds-answers-end
+slice_bounds-answers-end c = sym (length-take-le _ c.args.index.now (entered _ _ _ (sym c.in-Some.ensures)).within)
 
-pub answers_from-out-requires : goal.answers_from-out-requires
-answers_from-out-requires c =
+pub answers-out-requires : goal.answers-out-requires
+answers-out-requires c =
     let passed = c.requires.passed in
     let given = two_leaves _ _ _ _ _ passed in
-    answerable _ _ _ _ _ passed (entered _ _ _ (sym c.scan-scanned.ensures ∙ c.in-Entries.is)) given.first_keyed (omega (arith, given))
+    answerable _ _ _ _ _ passed (entered _ _ _ (sym c.in-Some.ensures)) given.first_keyed (omega (arith, given))
 
-pub slice_bounds-answers_to-end : goal.slice_bounds-answers_to-end
-slice_bounds-answers_to-end c = sym (length-take-le _ c.args.index.now (entered _ _ _ (sym c.scan-scanned.ensures ∙ c.in-Entries.is)).within)
+pub slice_bounds-answers-end-2 : goal.slice_bounds-answers-end-2
+slice_bounds-answers-end-2 c = sym (length-take-le _ c.args.index.now (entered _ _ _ (sym c.in-Some.ensures)).within)
 
-pub answers_to-home-requires : goal.answers_to-home-requires
-answers_to-home-requires c =
+pub answers-home-requires : goal.answers-home-requires
+answers-home-requires c =
     let given = two_leaves _ _ _ _ _ c.requires.passed in
-    answerable _ _ _ _ _ c.requires.passed (entered _ _ _ (sym c.scan-scanned.ensures ∙ c.in-Entries.is)) given.second_keyed (omega (arith, given))
+    answerable _ _ _ _ _ c.requires.passed (entered _ _ _ (sym c.in-Some.ensures)) given.second_keyed (omega (arith, given))
 
 pub lowest-requires : goal.lowest-requires
-lowest-requires c =
-    ((two_leaves _ _ _ _ _ c.requires.passed).bounds.vertices_most, (search rules, search rules))
+lowest-requires c = (two_leaves _ _ _ _ _ c.requires.passed).bounds.vertices_most
 
 pub returns : goal.returns
 returns c edges work =
-    full_once _ _ _ _ _ c.requires.passed (entered _ _ _ (sym c.scan-scanned.ensures ∙ c.in-Entries.is)) c.requires.both_once c.answers_from-out.ensures c.answers_to-home.ensures c.lowest.ensures edges work
+    full_once _ _ _ _ _ c.requires.passed (entered _ _ _ (sym c.in-Some.ensures)) c.requires.both_once c.answers-out.ensures c.answers-home.ensures c.lowest.ensures edges work
