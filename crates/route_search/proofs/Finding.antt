@@ -7,6 +7,7 @@ use native.Mathlib.Nat.{le_refl}
 use native.Mathlib.Omega.{arith}
 use lib.ListN.{length, get_or, set, replicate, length-set, length-append, length-replicate, get_or-replicate}
 use lib.Seq.{get_or-set_same, get_or-set_other}
+use Rattle.std.specs.Prelude.{Some, None}
 use Rattle.model.specs.Limits.{most_vertices, least_work}
 use Rattle.model.specs.Lists.{zeroed}
 use Rattle.model.specs.Walks.{Runs}
@@ -20,7 +21,7 @@ use Rattle.model.proofs.WalksBack.{step_state}
 use Rattle.model.proofs.Routes.{met_route}
 use Rattle.model.proofs.RouteSearch.{starts, going_end, whole_met}
 use Rattle.frontier.specs.Search.{Searchable}
-use Rattle.route_search.specs.Work.{state_unit, state_at, node_at, Paused}
+use Rattle.route_search.specs.Work.{queued_number, state_at, node_at, Paused}
 use Rattle.route_search.specs.Traced.{Traced}
 use Rattle.route_search.proofs.Holding.{node_in, marked_long, holds_chain}
 
@@ -47,10 +48,10 @@ module _ {vertices : ℕ} {edges l : List ℕ} {s t : ℕ} (r : Searchable verti
 
   module _ (m : ℕ) (long : least_work ≤ m) where
     abbrev put : List ℕ
-    put = set (replicate m 0) most_states (s * state_unit)
+    put = set (replicate m 0) most_states (queued_number 0 s 0)
 
     put_zero : (y : ℕ) → y < most_states → get_or put y 0 ≡ 0
-    put_zero y h = get_or-set_other (replicate m 0) most_states y (s * state_unit) 0 (omega arith) ∙ get_or-replicate m y 0 0 (omega arith)
+    put_zero y h = get_or-set_other (replicate m 0) most_states y (queued_number 0 s 0) 0 (omega arith) ∙ get_or-replicate m y 0 0 (omega arith)
 
     pub paused_start : Paused (bare vertices edges) l s put 1 0
     paused_start = record {
@@ -59,7 +60,7 @@ module _ {vertices : ℕ} {edges l : List ℕ} {s t : ℕ} (r : Searchable verti
       fresh = states (bare vertices edges) l;
       going = starts (bare vertices edges) l s r.vertices_small r.short.least r.rises;
       holds = record {
-        long = omega (arith, length-set (replicate m 0) most_states (s * state_unit), length-replicate {A = ℕ} m 0);
+        long = omega (arith, length-set (replicate m 0) most_states (queued_number 0 s 0), length-replicate {A = ℕ} m 0);
         root = refl;
         state_of = λ k h. at k (omega arith);
         link_of = λ k a b. absurd (omega arith);
@@ -73,7 +74,7 @@ module _ {vertices : ℕ} {edges l : List ℕ} {s t : ℕ} (r : Searchable verti
       where
         at : (k : ℕ) → k ≡ 0 → state_at put k ≡ (node_at s (start_node s ∷ []) k).at
         at k e =
-            let q : get_or put most_states 0 ≡ s * state_unit = get_or-set_same (replicate m 0) most_states (s * state_unit) 0 (omega (arith, length-replicate {A = ℕ} m 0)) in
+            let q : get_or put most_states 0 ≡ queued_number 0 s 0 = get_or-set_same (replicate m 0) most_states (queued_number 0 s 0) 0 (omega (arith, length-replicate {A = ℕ} m 0)) in
             rw e (omega (arith, q, r.start, r.vertices_small))
 
   module _ {w : List ℕ} {n k : ℕ} (d : Paused (bare vertices edges) l s w n k) where
@@ -81,20 +82,20 @@ module _ {vertices : ℕ} {edges l : List ℕ} {s t : ℕ} (r : Searchable verti
     small = omega (arith, r.destination, r.vertices_small)
 
     -- the state (t, 0) is queued
-    pub paused_found : ¬ (get_or w t 0 ≡ 0) → Traced (bare vertices edges) l s t w (get_or w t 0)
+    pub paused_found : ¬ (get_or w t 0 ≡ 0) → Traced (bare vertices edges) l s t w (Some (get_or w t 0))
     paused_found e =
         let m = d.holds.mark_some t small e in
         let c = holds_chain d.holds (λ k h. omega (arith, node_state d k h, r.short.most)) (get_or w t 0) (get_or w t 0) (le_refl (get_or w t 0)) m.inside in
         record {
           long = d.holds.long;
-          small = omega (arith, m.inside, d.count, d.size);
-          none = λ z. absurd (e z);
-          some = λ _. (
-            (node_at s (d.done ++ d.todo) (get_or w t 0)).back,
-            c,
-            met_route (bare vertices edges) l s t r.vertices_small r.short.least r.start r.destination d.going.firsts
-                (record { node = node_at s (d.done ++ d.todo) (get_or w t 0); among = node_in s (d.done ++ d.todo) (get_or w t 0) m.inside; is = m.is ∙ sym (state_zero t); long = marked_long d.holds m }),
-          );
+          found = record {
+            positive = m.positive;
+            small = omega (arith, m.inside, d.count, d.size);
+            walk = (node_at s (d.done ++ d.todo) (get_or w t 0)).back;
+            chain = c;
+            route = met_route (bare vertices edges) l s t r.vertices_small r.short.least r.start r.destination d.going.firsts
+                (record { node = node_at s (d.done ++ d.todo) (get_or w t 0); among = node_in s (d.done ++ d.todo) (get_or w t 0) m.inside; is = m.is ∙ sym (state_zero t); long = marked_long d.holds m });
+          };
         }
 
     -- all nodes are taken, and it is not
@@ -106,12 +107,12 @@ module _ {vertices : ℕ} {edges l : List ℕ} {s t : ℕ} (r : Searchable verti
         d.holds.mark_none t small z (subst (Queued (d.done ++ d.todo)) (state_zero t) (subst (λ (ns : List Node). Queued ns (state t 0)) (sym same) m))
     ended (p ∷ todo) e b z run = omega (arith, d.at, d.count, length-append d.done d.todo, ap length e)
 
-    pub paused_none : n ≤ k → get_or w t 0 ≡ 0 → Traced (bare vertices edges) l s t w 0
-    paused_none b z = record { long = d.holds.long; small = omega arith; none = λ _ run. ended d.todo refl b z run; some = λ e. absurd (e refl) }
+    pub paused_none : n ≤ k → get_or w t 0 ≡ 0 → Traced (bare vertices edges) l s t w None
+    paused_none b z = record { long = d.holds.long; found = ended d.todo refl b z }
 
   -- work memory that was zero
   pub paused_begin : (w : List ℕ) → least_work ≤ length w → w ≡ zeroed w
-      → Paused (bare vertices edges) l s (set w most_states (s * state_unit)) 1 0 × (get_or (set w most_states (s * state_unit)) t 0 ≡ 0)
+      → Paused (bare vertices edges) l s (set w most_states (queued_number 0 s 0)) 1 0 × (get_or (set w most_states (queued_number 0 s 0)) t 0 ≡ 0)
   paused_begin w long e =
-      subst (λ (m : List ℕ). Paused (bare vertices edges) l s (set m most_states (s * state_unit)) 1 0 × (get_or (set m most_states (s * state_unit)) t 0 ≡ 0)) (sym e)
+      subst (λ (m : List ℕ). Paused (bare vertices edges) l s (set m most_states (queued_number 0 s 0)) 1 0 × (get_or (set m most_states (queued_number 0 s 0)) t 0 ≡ 0)) (sym e)
       (paused_start (length w) long, put_zero (length w) long t (omega (arith, r.destination, r.vertices_small)))

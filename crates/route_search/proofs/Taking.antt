@@ -1,15 +1,15 @@
 -- Taking a node: from between two nodes, over its edges one after another, to between the next two.
-use mathlib.Core.Path.{◌≡◌, refl, sym, ap, ap₂, ◌∙◌, subst}
+use mathlib.Core.Path.{◌≡◌, refl, sym, ap, ◌∙◌, subst}
 use mathlib.Core.Bool.{not}
 use mathlib.Core.Logic.{◌⊎◌, ⊎_elim}
 use mathlib.Core.List.{List, [], ◌∷◌, ◌++◌, append_assoc}
 use Prim.Native.Nat.{ℕ, suc, ◌+◌, ◌-◌, ◌/◌, ◌%◌, ◌≤◌, ◌<◌}
-use native.Mathlib.Nat.{eq-or-lt_of_le}
+use native.Mathlib.Nat.{eq-or-lt_of_le, add-zero}
 use native.Mathlib.Numerals.{add-one}
 use native.Mathlib.Decide.{dec_lt, ℕ_discrete}
 use native.Mathlib.Omega.{arith}
 use lib.Dec.{eqb}
-use lib.ListN.{length, get_or, set, length-set, length-append}
+use lib.ListN.{length, get_or, set, length-append}
 use lib.Seq.{get_or_at}
 use Rattle.model.specs.Limits.{most_vertices, label_unit, least_work}
 use Rattle.model.specs.Lists.{◌∈◌, keep}
@@ -25,8 +25,9 @@ use Rattle.model.proofs.Levels.{states_iff}
 use Rattle.model.proofs.WalksBack.{step_state}
 use Rattle.model.proofs.RouteSearch.{mid_skip, mid_old, mid_new, going_mid, mid_going, keep_shorter}
 use Rattle.edges.specs.Slots.{Under}
-use Rattle.frontier.specs.Search.{Searchable}
-use Rattle.route_search.specs.Work.{queued_number, state_at, node_at, HoldsNodes, Paused, During, Enqueues, key_of, base_of, NodeKeys, WaitingAt, TakesNodeAt}
+use Rattle.frontier.specs.Search.{Searchable, key_of, base_of}
+use Rattle.frontier.proofs.Spreading.{rest, rest_at, rest_long}
+use Rattle.route_search.specs.Work.{queued_number, state_at, node_at, HoldsNodes, Paused, During, Enqueues}
 use Rattle.route_search.proofs.Holding.{marked_queued, holds_new}
 
 module _ {vertices : ℕ} {edges l : List ℕ} {s t : ℕ} (r : Searchable vertices edges l s t) where
@@ -66,12 +67,13 @@ module _ {vertices : ℕ} {edges l : List ℕ} {s t : ℕ} (r : Searchable verti
     all = open_all u;
   }
 
-  pub take_open : {w : List ℕ} {n k i key : ℕ} → Paused (bare vertices edges) l s w n k → k < n → key ≡ key_of l (state_at w k) → Under edges key i → During (bare vertices edges) l s w n k (state_at w k) i
-  take_open {w} {n} {k} {i} d b e u = opens w n k i d.done d.todo d.fresh d.going d.holds d.at d.count d.size b (subst (λ (m : ℕ). Under edges m i) e u)
+  pub take_open : {w : List ℕ} {n k i key : ℕ} → Paused (bare vertices edges) l s w n k → k < n → key ≡ key_of l (state_at w k) → Under edges key i
+      → During (bare vertices edges) l s w n k (state_at w k) (i + 0)
+  take_open {w} {n} {k} {i} d b e u = rw add-zero (opens w n k i d.done d.todo d.fresh d.going d.holds d.at d.count d.size b (rw e at u))
 
   -- ---- the end
 
-  pub take_close : {w : List ℕ} {n k a i key : ℕ} → During (bare vertices edges) l s w n k a i → key ≡ key_of l a → (i < length edges → key + label_unit ≤ get_or edges i 0) → Paused (bare vertices edges) l s w n (k + 1)
+  take_close : {w : List ℕ} {n k a i key : ℕ} → During (bare vertices edges) l s w n k a i → key ≡ key_of l a → (i < length edges → key + label_unit ≤ get_or edges i 0) → Paused (bare vertices edges) l s w n (k + 1)
   take_close {w} {n} {k} {a} {i} {key} d ek f =
       let e = sym (append_assoc d.done (d.node ∷ []) d.todo) in
       record {
@@ -129,8 +131,8 @@ module _ {vertices : ℕ} {edges l : List ℕ} {s t : ℕ} (r : Searchable verti
     further : (j : ℕ) → i + 1 ≤ j → j < length edges → suc (get_or edges i 0) ≤ get_or edges j 0
     further j u v = rising_lt r.rises i j (omega arith) v
 
-    rest : (x z : ℕ) → suc (get_or edges i 0) ≤ x → StepBy (bare vertices edges) l a x z → (j : ℕ) × (i + 1 ≤ j) × (j < length edges) × (get_or edges j 0 ≡ x)
-    rest x z b e =
+    later : (x z : ℕ) → suc (get_or edges i 0) ≤ x → StepBy (bare vertices edges) l a x z → (j : ℕ) × (i + 1 ≤ j) × (j < length edges) × (get_or edges j 0 ≡ x)
+    later x z b e =
         let (j, u, v, t) = d.all x z (omega (arith, d.from i (omega arith) h)) e in
         (j, ⊎_elim (λ c. absurd (omega (arith, ap (λ (m : ℕ). get_or edges m 0) c))) (λ c. omega arith) (eq-or-lt_of_le u), v, t)
 
@@ -151,7 +153,7 @@ module _ {vertices : ℕ} {edges l : List ℕ} {s t : ℕ} (r : Searchable verti
       size = d.size;
       is = d.is;
       from = further;
-      all = rest;
+      all = later;
     }
 
     pub turn_new : get_or w to 0 ≡ 0 → During (bare vertices edges) l s (set (set w to n) (most_states + n) (queued_number k to (get_or edges i 0))) (suc n) k a (i + 1)
@@ -174,7 +176,7 @@ module _ {vertices : ℕ} {edges l : List ℕ} {s t : ℕ} (r : Searchable verti
           size = omega (arith, d.size, keep_shorter to d.fresh (is_fresh e));
           is = d.is;
           from = further;
-          all = rest;
+          all = later;
         }
 
     -- whichever reaching it does
@@ -184,53 +186,36 @@ module _ {vertices : ℕ} {edges l : List ℕ} {s t : ℕ} (r : Searchable verti
       | no e ↦ let (u, v) = h.old e in rw (u, v) (turn_old (rw c at e))
     ]
 
-  -- the same as the code has it
-  module _ {w : List ℕ} {n k a i : ℕ} (d : During (bare vertices edges) l s w n k a i) (h : i < length edges) {key base : ℕ} (ek : key ≡ key_of l a) (eb : base ≡ base_of l a)
-      (p : key ≤ get_or edges i 0) (q : get_or edges i 0 < key + label_unit) where
-    low : key_of l a ≤ get_or edges i 0
-    low = subst (λ (m : ℕ). m ≤ get_or edges i 0) ek p
+  -- the same as the code has it: the edge is at index i of those from slot `from` on, and leads to the state z
+  module _ {w : List ℕ} {n k a : ℕ} (from i z : ℕ) (d : During (bare vertices edges) l s w n k a (from + i)) (h : i < length (rest edges from)) {key base : ℕ} (ek : key ≡ key_of l a) (eb : base ≡ base_of l a)
+      (p : key ≤ get_or (rest edges from) i 0) (q : get_or (rest edges from) i 0 < key + label_unit) (is : z + key ≡ base + get_or (rest edges from) i 0) where
+    inside : from + i < length edges
+    inside = omega (arith, rest_long edges from)
 
-    high : get_or edges i 0 < key_of l a + label_unit
-    high = subst (λ (m : ℕ). get_or edges i 0 < m + label_unit) ek q
+    low : key_of l a ≤ get_or edges (from + i) 0
+    low = omega (arith, rest_at edges from i)
 
-    is_to : base + (get_or edges i 0 - key) ≡ ahead l a (get_or edges i 0)
-    is_to = ap₂ (λ (b : ℕ) (c : ℕ). b + (get_or edges i 0 - c)) eb ek ∙ to_is d h low high
+    high : get_or edges (from + i) 0 < key_of l a + label_unit
+    high = omega (arith, rest_at edges from i)
 
-    pub reach_ready : (least_work ≤ length w) × ((base + (get_or edges i 0 - key) < most_states) × (get_or w (base + (get_or edges i 0 - key)) 0 ≡ 0 → n ≤ most_states))
-    reach_ready = (d.holds.long, (subst (λ (m : ℕ). m < most_states) (sym is_to) (to_small d h low high), λ e. room d h low high (ap (λ (m : ℕ). get_or w m 0) (sym is_to) ∙ e)))
+    to_z : z ≡ ahead l a (get_or edges (from + i) 0)
+    to_z = omega (arith, to_is d inside low high, rest_at edges from i, low)
 
-    pub reach_turn : {w' : List ℕ} {n' : ℕ} → Enqueues w (base + (get_or edges i 0 - key)) k (get_or edges i 0) n w' n' → During (bare vertices edges) l s w' n' k a (i + 1)
-    reach_turn t = turn d h low high is_to t
+    pub reach_ready : (least_work ≤ length w) × ((z < most_states) × ((k ≤ most_states) × (get_or w z 0 ≡ 0 → n ≤ most_states)))
+    reach_ready = (
+      d.holds.long,
+      (
+        subst (λ (m : ℕ). m < most_states) (sym to_z) (to_small d inside low high),
+        (omega (arith, d.at, d.count, d.size, length-append d.done (d.node ∷ d.todo)), λ e. room d inside low high (ap (λ (m : ℕ). get_or w m 0) (sym to_z) ∙ e)),
+      ),
+    )
 
--- reaching keeps the length
-pub reach_length : {w : List ℕ} {y k edge n : ℕ} {w' : List ℕ} {n' : ℕ} → Enqueues w y k edge n w' n' → length w' ≡ length w
-reach_length {w} {y} {k} {edge} {n} h = elim (ℕ_discrete (get_or w y 0) 0) [
-  | yes e ↦ ap length (h.new e).0 ∙ length-set (set w y n) (most_states + n) (queued_number k y edge) ∙ length-set w y n
-  | no e ↦ ap length (h.old e).0
-]
+    pub reach_turn : {w' : List ℕ} {n' : ℕ} → Enqueues w z k (get_or (rest edges from) i 0) n w' n' → During (bare vertices edges) l s w' n' k a (from + (i + 1))
+    reach_turn {w'} {n'} t =
+        let next : from + (i + 1) ≡ from + i + 1 = omega arith in
+        rw next (turn d inside low high to_z (subst (λ (x : ℕ). Enqueues w z k x n w' n') (rest_at edges from i) t))
 
--- ---- whatever search it is
-
--- node k is being taken in every search that was paused before it
-pub record TakingNode (edges w₀ : List ℕ) (n₀ k key base : ℕ) (w : List ℕ) (n i : ℕ) : Type 0 where
-  pub during : {l : List ℕ} {vertices s t : ℕ} → NodeKeys l w₀ k key base → Searchable vertices edges l s t → Paused (bare vertices edges) l s w₀ n₀ k
-      → During (bare vertices edges) l s w n k (state_at w₀ k) i
-
-pub taking_open : {edges w : List ℕ} {n k key base i : ℕ} → k < n → Under edges key i → TakingNode edges w n k key base w n i
-taking_open h u = record { during = λ keys r p. take_open r p h keys.key_is u }
-
-pub taking_close : {edges w₀ w : List ℕ} {n₀ k key base n i : ℕ} → TakingNode edges w₀ n₀ k key base w n i → (i < length edges → key + label_unit ≤ get_or edges i 0)
-    → TakesNodeAt edges w₀ n₀ k key base w n
-taking_close d f = record { takes = λ l keys. record { goes = λ r p. take_close r (d.during keys r p) keys.key_is f } }
-
-module _ {edges w₀ w : List ℕ} {n₀ k key base n i : ℕ} (d : TakingNode edges w₀ n₀ k key base w n i) (h : i < length edges) (p : key ≤ get_or edges i 0)
-    (q : get_or edges i 0 < key + label_unit) where
-  pub taking_ready : WaitingAt edges w₀ n₀ k key base
-      → (least_work ≤ length w) × ((base + (get_or edges i 0 - key) < most_states) × ((k ≤ most_states) × (get_or w (base + (get_or edges i 0 - key)) 0 ≡ 0 → n ≤ most_states)))
-  taking_ready a =
-      let b = a.waiting in
-      let (u, (v, z)) = reach_ready b.able (d.during a.keys b.able b.paused) h a.keys.key_is a.keys.base_is p q in
-      (u, (v, (omega (arith, b.more, b.paused.size), z)))
-
-  pub taking_turn : {w' : List ℕ} {n' : ℕ} → Enqueues w (base + (get_or edges i 0 - key)) k (get_or edges i 0) n w' n' → TakingNode edges w₀ n₀ k key base w' n' (i + 1)
-  taking_turn t = record { during = λ keys r a. reach_turn r (d.during keys r a) h keys.key_is keys.base_is p q t }
+  -- no edge after the branch is one of the node's
+  pub branch_over : {w : List ℕ} {n k a key : ℕ} (from i : ℕ) → During (bare vertices edges) l s w n k a (from + i) → key ≡ key_of l a
+      → (i < length (rest edges from) → key + label_unit ≤ get_or (rest edges from) i 0) → Paused (bare vertices edges) l s w n (k + 1)
+  branch_over from i d ek f = take_close d ek (λ h. omega (arith, rest_at edges from i, f (omega (arith, rest_long edges from))))

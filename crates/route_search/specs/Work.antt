@@ -2,13 +2,11 @@
 -- queue, in the order in which states were reached, the start first. A queued number has the place of the node before, the state, and the edge
 -- that led there.
 use Rattle.std.specs.Prelude.{◌≡◌, List, ◌∷◌, ◌++◌, ℕ, suc, ◌+◌, ◌*◌, ◌/◌, ◌%◌, ◌^◌, ◌≤◌, ◌<◌, length, get_or, set}
-use Rattle.model.specs.Limits.{most_vertices, from_unit, label_unit, least_work}
+use Rattle.model.specs.Limits.{least_work}
 use Rattle.model.specs.Edges.{Graph}
-use Rattle.model.specs.Computed.Edges.{bare}
 use Rattle.model.specs.Computed.Levels.{most_states}
 use Rattle.model.specs.Computed.Routes.{Node, start_node}
 use Rattle.model.specs.Queue.{StepBy, Queued, Mid, Going}
-use Rattle.frontier.specs.Search.{Searchable}
 
 -- the units of a queued number's fields. An edge is below the first, and so many states fit between the two
 abbrev pub state_unit : ℕ
@@ -20,18 +18,28 @@ before_unit = 2 ^ 48
 abbrev pub queued_number : (before x edge : ℕ) → ℕ
 queued_number before x edge = before * before_unit + x * state_unit + edge
 
--- the fields of the number at place k
+-- the fields of any number
+abbrev pub before_of : ℕ → ℕ
+before_of x = x / before_unit
+
+abbrev pub state_of : ℕ → ℕ
+state_of x = x / state_unit % (before_unit / state_unit)
+
+abbrev pub edge_of : ℕ → ℕ
+edge_of x = x % state_unit
+
+-- the number at place k, and its fields
 abbrev pub queued_at : List ℕ → ℕ → ℕ
 queued_at w k = get_or w (most_states + k) 0
 
 abbrev pub before_at : List ℕ → ℕ → ℕ
-before_at w k = queued_at w k / before_unit
+before_at w k = before_of (queued_at w k)
 
 abbrev pub state_at : List ℕ → ℕ → ℕ
-state_at w k = queued_at w k / state_unit % (before_unit / state_unit)
+state_at w k = state_of (queued_at w k)
 
 abbrev pub edge_into : List ℕ → ℕ → ℕ
-edge_into w k = queued_at w k % state_unit
+edge_into w k = edge_of (queued_at w k)
 
 -- ---- work memory holds nodes
 
@@ -95,38 +103,3 @@ pub record During (g : Graph) (l : List ℕ) (s : ℕ) (w : List ℕ) (n k a i :
 pub record Enqueues (w : List ℕ) (y k edge n : ℕ) (w' : List ℕ) (n' : ℕ) : Type 0 where
   pub old : ¬ (get_or w y 0 ≡ 0) → (w' ≡ w) × (n' ≡ n)
   pub new : get_or w y 0 ≡ 0 → (w' ≡ set (set w y n) (most_states + n) (queued_number k y edge)) × (n' ≡ suc n)
-
--- ---- taking a node
-
--- some search of the edges by l is under way, and node k is to be taken
-pub record Waiting (edges l w : List ℕ) (n k : ℕ) : Type 0 where
-  pub vertices : ℕ
-  pub s : ℕ
-  pub t : ℕ
-  pub able : Searchable vertices edges l s t
-  pub paused : Paused (bare vertices edges) l s w n k
-  pub more : k < n
-
--- every such search has then taken it
-pub record TakesNode (edges l w : List ℕ) (n k : ℕ) (w' : List ℕ) (n' : ℕ) : Type 0 where
-  pub goes : {vertices s t : ℕ} → Searchable vertices edges l s t → Paused (bare vertices edges) l s w n k → Paused (bare vertices edges) l s w' n' (k + 1)
-
--- the least edge of the next label from the state a, and the least state that such an edge may lead to
-abbrev pub key_of : List ℕ → ℕ → ℕ
-key_of l a = a % most_vertices * from_unit + get_or l (a / most_vertices) 0 * label_unit
-
-abbrev pub base_of : List ℕ → ℕ → ℕ
-base_of l a = (a / most_vertices + 1) % length l * most_vertices
-
--- that is all that taking node k asks of the pattern
-pub record NodeKeys (l w : List ℕ) (k key base : ℕ) : Type 0 where
-  pub key_is : key ≡ key_of l (state_at w k)
-  pub base_is : base ≡ base_of l (state_at w k)
-
-pub record WaitingAt (edges w : List ℕ) (n k key base : ℕ) : Type 0 where
-  pub pattern : List ℕ
-  pub keys : NodeKeys pattern w k key base
-  pub waiting : Waiting edges pattern w n k
-
-pub record TakesNodeAt (edges w : List ℕ) (n k key base : ℕ) (w' : List ℕ) (n' : ℕ) : Type 0 where
-  pub takes : (l : List ℕ) → NodeKeys l w k key base → TakesNode edges l w n k w' n'

@@ -1,48 +1,36 @@
--- `route_search::expand` meets its contract: the edges of node k are those at its key.
-use mathlib.Core.Path.{refl}
-use mathlib.Core.List.{List}
-use Prim.Native.Nat.{ℕ, ◌+◌, ◌*◌, ◌/◌, ◌%◌, ◌<◌}
-use native.Mathlib.Nat.{mod-lt}
 use native.Mathlib.Omega.{arith}
-use lib.ListN.{length}
-use Rattle.model.specs.Limits.{most_vertices, most_longest}
-use Rattle.edges.proofs.Slots.{under_up}
-use Rattle.route_search.specs.Work.{state_at, Waiting}
+use Rattle.frontier.proofs.Spreading.{rest_least}
 use Rattle.route_search.proofs.Finding.{paused_state}
+use Rattle.route_search.proofs.Taking.{take_open, reach_ready, reach_turn, branch_over}
 use Rattle.route_search.proofs.expand.Goals as goal
 
-module _ {edges pattern work : List ℕ} {tail k : ℕ} (w : Waiting edges pattern work tail k) where
-  -- the state at hand has its position in the pattern
-  inside : state_at work k < length pattern * most_vertices
-  inside = paused_state w.able w.paused w.more
+pub branch-branch-requires : goal.branch-branch-requires
+branch-branch-requires c = rw c.from-node.ensures (paused_state c.args.search.now.searchable c.requires.0 c.requires.1)
 
-  -- and so has the next
-  position : (state_at work k / most_vertices + 1) % length pattern < most_longest
-  position = let short = w.able.short in omega (arith, mod-lt (state_at work k / most_vertices + 1) short.least, short.most)
+pub loop-edge-init : goal.loop-edge-init
+loop-edge-init c =
+    let b = c.branch-branch.ensures in
+    take_open c.args.search.now.searchable c.requires.0 c.requires.1 (rw c.from-node.ensures at b.key) b.from.under
 
-pub spread-requires : goal.spread-requires
-spread-requires c =
-    let at : ℕ = state_at c.args.work.now c.args.k in
-    let l = c.type_inv.pattern (at / most_vertices) in
-    record {
-      under = (under_up (omega arith) (c.requires.0.under (at % most_vertices) (omega arith)), omega arith);
-      waiting_at = record { pattern = c.args.pattern.now; keys = record { key_is = refl; base_is = refl }; waiting = c.requires.1 };
-    }
+pub state-requires : goal.state-requires
+state-requires c = (rest_least c.args.search.now.searchable.rises c.branch-branch.ensures.from _ c.loop-edge-test.true, omega arith)
 
-pub returns : goal.returns
-returns c = c.spread.ensures.takes _ (record { key_is = refl; base_is = refl })
+pub reach-n-requires : goal.reach-n-requires
+reach-n-requires c =
+    let searchable = c.args.search.now.searchable in
+    let b = c.branch-branch.ensures in
+    let least = rest_least searchable.rises b.from _ c.loop-edge-test.true in
+    reach_ready searchable _ _ _ c.loop-edge.invariant c.loop-edge-test.true (rw c.from-node.ensures at b.key) (rw c.from-node.ensures at b.base) least (omega arith) c.state.ensures
 
-pub bounds-pattern-used : goal.bounds-pattern-used
-bounds-pattern-used c = omega (arith, inside c.requires.1)
+pub loop-edge-preserved : goal.loop-edge-preserved
+loop-edge-preserved c =
+    let searchable = c.args.search.now.searchable in
+    let b = c.branch-branch.ensures in
+    let least = rest_least searchable.rises b.from _ c.loop-edge-test.true in
+    reach_turn searchable _ _ _ c.loop-edge.invariant c.loop-edge-test.true (rw c.from-node.ensures at b.key) (rw c.from-node.ensures at b.base) least (omega arith) c.state.ensures c.reach-n.ensures
 
-pub overflow_cast-label : goal.overflow_cast-label
-overflow_cast-label c = omega (arith, c.type_inv.pattern (state_at c.args.work.now c.args.k / most_vertices))
+pub returns-after-loop-edge : goal.returns-after-loop-edge
+returns-after-loop-edge c = branch_over c.args.search.now.searchable _ _ c.loop-edge.invariant (rw c.from-node.ensures at c.branch-branch.ensures.key) (λ h. absurd (omega arith))
 
-pub overflow_mul-key-2 : goal.overflow_mul-key-2
-overflow_mul-key-2 c = omega (arith, c.type_inv.pattern (state_at c.args.work.now c.args.k / most_vertices))
-
-pub overflow_add-key : goal.overflow_add-key
-overflow_add-key c = omega (arith, c.type_inv.pattern (state_at c.args.work.now c.args.k / most_vertices))
-
-pub overflow_mul-base : goal.overflow_mul-base
-overflow_mul-base c = omega (arith, position c.requires.1)
+pub returns-then-end-edge : goal.returns-then-end-edge
+returns-then-end-edge c = branch_over c.args.search.now.searchable _ _ c.loop-edge.invariant (rw c.from-node.ensures at c.branch-branch.ensures.key) (λ h. omega arith)

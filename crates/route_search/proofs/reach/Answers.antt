@@ -5,4 +5,4 @@ use native.Mathlib.Omega.{arith}
 use Rattle.route_search.proofs.reach.Goals as goal
 
 pub returns : goal.returns
-returns c = record { old = λ d. absurd (d (omega arith)); new = λ e. (refl, add-one _) }
+returns c = record { old = λ d. absurd (d (omega arith)); new = λ e. (rw c.number.ensures refl, add-one _) }
