@@ -2,7 +2,6 @@
 use mathlib.Core.Path.{◌≡◌, refl, sym, ap, ap₂, ◌∙◌, subst}
 use mathlib.Core.List.{List, [], ◌∷◌, reverse_aux, reverse_aux-eq}
 use Prim.Native.Nat.{ℕ, suc, ◌+◌, ◌-◌, ◌≤◌, ◌<◌}
-use native.Mathlib.Decide.{ℕ_discrete}
 use native.Mathlib.Omega.{arith}
 use lib.ListN.{length, set, drop, length-set}
 use lib.Seq.{get_or-set_same, drop-cons, drop-set-lt}
@@ -37,8 +36,8 @@ chain_none : {w : List ℕ} {at : ℕ} {p : List ℕ} → Chain w at p → at �
 chain_none done e = refl
 chain_none (link a b c d f) e = absurd (omega arith)
 
-pub chain_some : {w : List ℕ} {at : ℕ} {p : List ℕ} → Chain w at p → ¬ (at ≡ 0) → 1 ≤ length p
-chain_some done d = absurd (d refl)
+pub chain_some : {w : List ℕ} {at : ℕ} {p : List ℕ} → Chain w at p → 1 ≤ at → 1 ≤ length p
+chain_some done d = absurd (omega arith)
 chain_some (link a b c e f) d = omega arith
 
 -- ---- counting
@@ -50,13 +49,9 @@ pub record CountingLinks (w : List ℕ) (place at n : ℕ) : Type 0 where
   pub sum : (p : List ℕ) → Chain w place p → n + length rest ≡ length p
   pub bound : n + at ≤ place
 
-start_chain : {w : List ℕ} {place : ℕ} → Linked w place → (p : List ℕ) × Chain w place p
-start_chain {w} {place} h = elim (ℕ_discrete place 0) [ yes e ↦ ([], subst (λ (k : ℕ). Chain w k []) (sym e) done) | no d ↦ h.walk d ]
-
 pub counting_start : {w : List ℕ} {place : ℕ} → Linked w place → CountingLinks w place place 0
 counting_start h =
-    let (p, c) = start_chain h in
-    record { rest = p; chain = c; sum = λ q d. omega (arith, ap length (chain_same c d refl)); bound = omega arith }
+    record { rest = h.walk; chain = h.chain; sum = λ q d. omega (arith, ap length (chain_same h.chain d refl)); bound = omega arith }
 
 pub counting_more : {w : List ℕ} {place at n : ℕ} → CountingLinks w place at n → ¬ (at ≡ 0) → CountingLinks w place (before_at w at) (n + 1)
 counting_more c d =
@@ -80,15 +75,14 @@ pub record WritingWalk (w : List ℕ) (place at i : ℕ) (walk₀ walk : List �
 
 pub writing_start : {w : List ℕ} {place n : ℕ} {walk : List ℕ} → Linked w place → CountsLinks w place n → n ≤ length walk → WritingWalk w place place n walk walk
 writing_start {walk = walk} h k f =
-    let (p, c) = start_chain h in
     record {
-      rest = p;
-      chain = c;
-      count = sym (k.is p c);
+      rest = h.walk;
+      chain = h.chain;
+      count = sym (k.is h.walk h.chain);
       small = omega arith;
       len = refl;
       fits = f;
-      same = λ q d. ap₂ (λ (r : List ℕ) (m : ℕ). reverse_aux r (drop m walk)) (chain_same c d refl) (k.is q d);
+      same = λ q d. ap₂ (λ (r : List ℕ) (m : ℕ). reverse_aux r (drop m walk)) (chain_same h.chain d refl) (k.is q d);
     }
 
 pub writing_more : {w : List ℕ} {place at i : ℕ} {walk₀ walk : List ℕ} → WritingWalk w place at i walk₀ walk → 0 < i

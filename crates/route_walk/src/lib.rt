@@ -1,11 +1,12 @@
 // The walk that the search for a route has found: from its last state back to the start, counted, and written to walk memory.
 #![tactic(auto)]
 
-ghost use Rattle.std.specs.Prelude.{◌≤◌, length};
+ghost use Rattle.std.specs.Prelude.{◌≤◌, IfSome, length};
 ghost use Rattle.route_walk.specs.Walk.{Linked, CountsLinks, WritesWalk, LightsAt};
 
-use model::{Refusal, RouteReply};
-use route_search::{BEFORE_UNIT, QUEUE, STATE_UNIT};
+use frontier::QUEUE;
+use model::Refusal;
+use route_search::Queued;
 
 // The number of edges from a place back to the start.
 fn edge_count(work: &[u64], place: usize) -> usize
@@ -15,7 +16,7 @@ fn edge_count(work: &[u64], place: usize) -> usize
     let mut at = place;
     let mut n = 0;
     while at != 0 {
-        at = (work[QUEUE + at] / BEFORE_UNIT) as usize;
+        at = Queued::from(work[QUEUE + at]).before;
         n += 1;
     }
     n
@@ -27,27 +28,26 @@ fn write_walk(work: &[u64], place: usize, n: usize, walk: &mut [u32])
     ensures { WritesWalk work.now place walk.old walk.new }
 {
     let mut at = place;
-    let mut i = n;
-    while 0 < i {
-        let queued = work[QUEUE + at];
-        i -= 1;
-        walk[i] = (queued % STATE_UNIT) as u32;
-        at = (queued / BEFORE_UNIT) as usize;
+    for i in (0..n).rev() {
+        let node = Queued::from(work[QUEUE + at]);
+        walk[i] = node.edge;
+        at = node.before;
     }
 }
 
-// Lights the walk back from a place, if it is not 0 and walk memory is long enough.
-pub fn light(work: &[u64], place: usize, walk: &mut [u32]) -> RouteReply
-    requires { Linked work.now place }
+// Lights the walk back from a place, if there is one and walk memory is long enough. Tells how many edges it has.
+#[tactic(auto, using(crate::proofs::Lighting::light_none, crate::proofs::Lighting::light_yes))]
+pub fn light(work: &[u64], place: Option<usize>, walk: &mut [u32]) -> Result<Option<u32>, Refusal>
+    requires { IfSome place (Linked work.now) }
     ensures { LightsAt work.now place walk.old walk.new result }
 {
-    if place == 0 {
-        return RouteReply::No;
-    }
+    let Some(place) = place else {
+        return Ok(None);
+    };
     let n = edge_count(work, place);
     if walk.len() < n {
-        return RouteReply::Refused(Refusal::WalkMemory);
+        return Err(Refusal::WalkMemory);
     }
     write_walk(work, place, n, walk);
-    RouteReply::Yes(n as u32)
+    Ok(Some(n as u32))
 }
