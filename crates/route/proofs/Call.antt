@@ -9,7 +9,7 @@ use Rattle.model.specs.Routes.{Refused}
 use Rattle.model.specs.Computed.Edges.{bare}
 use Rattle.model.specs.Computed.Routes.{route_of}
 use Rattle.model.specs.declared.Refusal.{Refusal}
-use Rattle.model.specs.declared.RouteReply.{RouteReply}
+use Rattle.std.specs.Prelude.{Option, Result}
 use Rattle.model.proofs.RouteSearch.{route_as}
 use Rattle.calls.specs.Call.{Size, graph_of, Memory, lent, Meets}
 use Rattle.calls.specs.Search.{search_refusal}
@@ -42,7 +42,7 @@ module _ (h : Size) (s t : ℕ) (pattern : List ℕ) (m : Memory) where
   unfolding route_call
   route_refused r e = refused_meets Refused m _ (search_refusal h s t pattern m) r (checks_same ∙ e)
 
-pub route_meets : {h : Size} {s t : ℕ} {pattern : List ℕ} {m : Memory} {n : ℕ} → SearchPasses h s t pattern m n → {r : RouteReply} {walk' work' : List ℕ}
+pub route_meets : {h : Size} {s t : ℕ} {pattern : List ℕ} {m : Memory} {n : ℕ} → SearchPasses h s t pattern m n → {r : Result (Option ℕ) Refusal} {walk' work' : List ℕ}
     → Shows (bare h.vertices (take n m.edges)) pattern s t m.output m.work r walk' work'
     → Meets (route_call h s t pattern m) (routed_of r) (record { edges = m.edges; index = m.index; work = work'; output = walk' })
 unfolding route_call
