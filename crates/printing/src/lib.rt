@@ -1,87 +1,137 @@
-// What the lines that programs print are made of, as bytes in lent memory: words, numbers, counts; and the lines that several print. Each function
-// writes from `at` on, leaves all other bytes as they were, and returns where its text ends.
+// What the lines that programs print are made of, as text in fixed memory: words, numbers, counts; and the lines that several print. Each function
+// writes behind what stands there already.
 #![tactic(auto)]
 
-ghost use Rattle.std.specs.Prelude.{◌+◌, ◌≤◌, ◌<◌, ◌++◌, ◌∷◌, [], length};
+ghost use Rattle.std.specs.Prelude.{◌≡◌, ℕ, ◌+◌, ◌≤◌, ◌<◌, List, [], ◌∷◌, ◌++◌, length, take};
 ghost use Rattle.model.specs.Limits.{digit_unit};
-ghost use Rattle.printing.specs.Puts.{Puts};
+ghost use Rattle.model.specs.Replies.{number_of};
 ghost use Rattle.printing.specs.Lines.{numeral, number, counts, number_line, refused_line};
 
-// One byte.
-pub fn put(out: &mut [u8], at: usize, byte: u8) -> usize
-    requires { at < length out.old }
-    ensures { Puts out.old at (byte ∷ []) out.new result }
-{
-    out[at] = byte;
-    at + 1
+use model::{Refusal, Size};
+use std::marker::Model;
+
+// Text of at most ROOM bytes.
+#[derive(Drop)]
+pub struct Text<const ROOM: usize> {
+    bytes: [u8; ROOM],
+    end: usize,
 }
 
-// A word.
-pub fn put_text(out: &mut [u8], at: usize, text: &[u8]) -> usize
-    requires { at + length text.now ≤ length out.old }
-    ensures { Puts out.old at text.now out.new result }
-{
-    let end = at + text.len();
-    out[at..end].copy_from_slice(text);
-    end
+impl<const ROOM: usize> Model for Text<ROOM> {
+    ghost Value = { List ℕ };
+
+    ghost view = { λ text. take text.end text.bytes };
+
+    ghost invariant = { λ text. text.end ≤ ROOM };
 }
 
-// The digits of n, `most` of them at most.
-pub fn put_digits(out: &mut [u8], at: usize, n: u32, base: u32, most: usize) -> usize
-    requires { (1 ≤ base) × ((base ≤ digit_unit) × (at + most ≤ length out.old)) }
-    ensures { Puts out.old at (numeral base most n) out.new result }
-{
-    if most == 0 {
-        return at;
+// What the header line says of a layout.
+#[derive(Clone, Copy)]
+pub struct Counts {
+    pub size: Size,
+    pub edges: u32,
+    pub entries: u32,
+}
+
+impl<const ROOM: usize> Text<ROOM> {
+    pub fn new() -> Self
+        ensures { result ≡ [] }
+    {
+        Text {
+            bytes: [0; ROOM],
+            end: 0,
+        }
     }
-    if n < base {
-        return put(out, at, 48 + n as u8);
+
+    pub fn as_bytes(&self) -> &[u8]
+        ensures { result.now ≡ self.now }
+    {
+        &self.bytes[..self.end]
     }
-    let next = put_digits(out, at, n / base, base, most - 1);
-    put(out, next, 48 + (n % base) as u8)
-}
 
-// A word and a decimal number.
-pub fn put_field(out: &mut [u8], at: usize, text: &[u8], n: u32) -> usize
-    requires { at + length text.now + 10 ≤ length out.old }
-    ensures { Puts out.old at (text.now ++ number n) out.new result }
-{
-    let next = put_text(out, at, text);
-    put_digits(out, next, n, 10, 10)
-}
+    // One byte.
+    pub fn put(&mut self, byte: u8)
+        requires { length self.old < ROOM }
+        ensures { self.new ≡ self.old ++ byte ∷ [] }
+    {
+        self.bytes[self.end] = byte;
+        self.end += 1;
+    }
 
-// What the header line says: places, longest pattern, legs, entries.
-pub fn put_counts(
-    out: &mut [u8],
-    at: usize,
-    vertices: u32,
-    longest: u32,
-    edges: u32,
-    entries: u32,
-) -> usize
-    requires { at + 71 ≤ length out.old }
-    ensures { Puts out.old at (counts vertices longest edges entries) out.new result }
-{
-    let places = put_field(out, at, b"places ", vertices);
-    let k = put_field(out, places, b" longest ", longest);
-    let legs = put_field(out, k, b" legs ", edges);
-    put_field(out, legs, b" entries ", entries)
-}
+    // A word.
+    pub fn put_text(&mut self, word: &[u8])
+        requires { length self.old + length word.now ≤ ROOM }
+        ensures { self.new ≡ self.old ++ word.now }
+    {
+        let end = self.end + word.len();
+        let bytes = &mut self.bytes[..];
+        bytes[self.end..end].copy_from_slice(word);
+        self.end = end;
+    }
 
-// A line with a number alone.
-pub fn put_number(out: &mut [u8], at: usize, n: u32) -> usize
-    requires { at + 11 ≤ length out.old }
-    ensures { Puts out.old at (number_line n) out.new result }
-{
-    let next = put_digits(out, at, n, 10, 10);
-    put(out, next, b'\n')
-}
+    // The digits of n, `most` of them at most.
+    #[tactic(auto, using(crate::proofs::Putting::digits))]
+    pub fn put_digits(&mut self, n: u32, base: u32, most: usize)
+        requires { (1 ≤ base) × ((base ≤ digit_unit) × (length self.old + most ≤ ROOM)) }
+        ensures { self.new ≡ self.old ++ numeral base most n }
+    {
+        if most == 0 {
+            return;
+        }
+        if n < base {
+            self.put(b'0' + n as u8);
+            return;
+        }
+        self.put_digits(n / base, base, most - 1);
+        self.put(b'0' + (n % base) as u8);
+    }
 
-// The line of a refused card.
-pub fn put_refused(out: &mut [u8], at: usize, refusal: u32) -> usize
-    requires { at + 19 ≤ length out.old }
-    ensures { Puts out.old at (refused_line refusal) out.new result }
-{
-    let next = put_text(out, at, b"refused ");
-    put_number(out, next, refusal)
+    // A decimal number: 32 bits take 10 digits.
+    fn put_decimal(&mut self, n: u32)
+        requires { length self.old + 10 ≤ ROOM }
+        ensures { self.new ≡ self.old ++ number n }
+    {
+        self.put_digits(n, 10, 10);
+    }
+
+    // A word and a decimal number.
+    pub fn put_field(&mut self, word: &[u8], n: u32)
+        requires { length self.old + length word.now + 10 ≤ ROOM }
+        ensures { self.new ≡ self.old ++ (word.now ++ number n) }
+    {
+        self.put_text(word);
+        self.put_decimal(n);
+    }
+
+    // What the header line says: places, longest pattern, legs, entries.
+    #[tactic(auto, using(crate::proofs::Putting::lengths), unfolding(crate::specs::Lines::counts))]
+    pub fn put_counts(&mut self, layout: Counts)
+        requires { length self.old + 71 ≤ ROOM }
+        ensures { self.new ≡ self.old ++ counts layout.size.vertices layout.size.longest layout.edges layout.entries }
+    {
+        self.put_field(b"places ", layout.size.vertices);
+        self.put_field(b" longest ", layout.size.longest);
+        self.put_field(b" legs ", layout.edges);
+        self.put_field(b" entries ", layout.entries);
+    }
+
+    // A line with a number alone.
+    #[tactic(auto, using(crate::proofs::Putting::lengths), unfolding(crate::specs::Lines::number_line))]
+    pub fn put_number(&mut self, n: u32)
+        requires { length self.old + 11 ≤ ROOM }
+        ensures { self.new ≡ self.old ++ number_line n }
+    {
+        self.put_decimal(n);
+        self.put(b'\n');
+    }
+
+    // The line of a refused card.
+    #[tactic(auto, using(crate::proofs::Putting::lengths), unfolding(crate::specs::Lines::refused_line))]
+    pub fn put_refused(&mut self, refusal: Refusal)
+        requires { length self.old + 19 ≤ ROOM }
+        ensures { self.new ≡ self.old ++ refused_line (number_of refusal) }
+    {
+        self.put_text(b"refused ");
+        self.put_number(u32::from(refusal));
+    }
 }

@@ -2,22 +2,22 @@
 // patterns first and then by code, one number a line.
 #![tactic(auto)]
 
-ghost use Rattle.std.specs.Prelude.{◌≡◌, [], ◌+◌, ◌*◌, ◌^◌, ◌≤◌, ◌<◌, length, get_or};
-ghost use Rattle.model.specs.Limits.{most_label, table_longest, table_size};
+ghost use Rattle.std.specs.Prelude.{◌≡◌, [], ◌+◌, ◌*◌, ◌^◌, ◌≤◌, ◌<◌, ◌++◌, length, get_or};
+ghost use Rattle.model.specs.Limits.{most_label, table_longest};
 ghost use Rattle.model.specs.Computed.Lists.{spread};
 ghost use Rattle.model.specs.Computed.Patterns.{words};
 ghost use Rattle.model.specs.Computed.Table.{repeat_lengths};
-ghost use Rattle.printing.specs.Puts.{Puts};
 ghost use Rattle.printing.specs.Lines.{number_line};
 ghost use Rattle.repeat_table.specs.Lengths.{lengths, LinesFit};
 
 use model::TABLE_SIZE;
+use printing::Text;
 use std::io;
 
 const LABELS: usize = model::MOST_LABEL;
 
 // A line for each number, of eleven bytes at most.
-const ROOM: usize = 11 * TABLE_SIZE;
+const TABLE_ROOM: usize = 11 * TABLE_SIZE;
 
 // Spells the word of as many labels as the slice has that stands at a number by rising code.
 fn spell(word: &mut [u8], number: usize)
@@ -25,55 +25,46 @@ fn spell(word: &mut [u8], number: usize)
     ensures { word.new ≡ get_or (words (length word.old)) number [] }
 {
     let mut rest = number;
-    let mut i = word.len();
-    while 0 < i {
-        i -= 1;
+    for i in (0..word.len()).rev() {
         word[i] = (rest % LABELS) as u8 + 1;
         rest /= LABELS;
     }
 }
 
-// The length of the minimum repeat of that word.
-fn length_at(word: &mut [u8], number: usize) -> u32
-    requires { ((1 ≤ length word.old) × (length word.old ≤ table_longest)) × (number < most_label ^ length word.old) }
-    ensures { result ≡ get_or (lengths (length word.old)) number 0 }
+// The length of the minimum repeat of that word, of N labels.
+fn length_at<const N: usize>(number: usize) -> u32
+    requires { ((1 ≤ N) × (N ≤ table_longest)) × (number < most_label ^ N) }
+    ensures { result ≡ get_or (lengths N) number 0 }
 {
-    spell(word, number);
-    let folded = patterns::minimum_repeat(word);
-    folded.length as u32
+    let mut word = [0u8; N];
+    spell(&mut word, number);
+    patterns::minimum_repeat(&word).length as u32
 }
 
-// A line for each pattern of as many labels as the word lent has: `count` of them.
-fn put_lengths(out: &mut [u8], at: usize, word: &mut [u8], count: usize) -> usize
-    requires { LinesFit (length word.old) count at (length out.old) }
-    ensures { Puts out.old at (spread number_line (lengths (length word.old))) out.new result }
+// A line for each pattern of N labels: `count` of them.
+#[tactic(auto, using(crate::proofs::Listed::length_lines))]
+fn put_lengths<const N: usize, const ROOM: usize>(text: &mut Text<ROOM>, count: usize)
+    requires { LinesFit N count (length text.old) ROOM }
+    ensures { text.new ≡ text.old ++ spread number_line (lengths N) }
 {
-    let mut next = at;
-    let mut i = 0;
-    while i < count {
-        next = printing::put_number(out, next, length_at(word, i));
-        i += 1;
+    for number in 0..count {
+        text.put_number(length_at::<N>(number));
     }
-    next
 }
 
-// The whole table. Returns where it ends.
-fn table(out: &mut [u8]) -> usize
-    requires { table_size * 11 ≤ length out.old }
-    ensures { Puts out.old 0 (spread number_line repeat_lengths) out.new result }
+// The whole table.
+#[tactic(auto, using(crate::proofs::Listed::part_lengths))]
+fn table() -> Text<TABLE_ROOM>
+    ensures { result ≡ spread number_line repeat_lengths }
 {
-    let mut one = [0u8; 1];
-    let mut two = [0u8; 2];
-    let mut three = [0u8; 3];
-    let mut four = [0u8; 4];
-    let a = put_lengths(out, 0, &mut one, 8);
-    let b = put_lengths(out, a, &mut two, 64);
-    let c = put_lengths(out, b, &mut three, 512);
-    put_lengths(out, c, &mut four, 4096)
+    let mut text = Text::new();
+    put_lengths::<1, TABLE_ROOM>(&mut text, 8);
+    put_lengths::<2, TABLE_ROOM>(&mut text, 64);
+    put_lengths::<3, TABLE_ROOM>(&mut text, 512);
+    put_lengths::<4, TABLE_ROOM>(&mut text, 4096);
+    text
 }
 
 fn main(rt: HostRuntime) -> io::Result<()> {
-    let mut out = [0u8; ROOM];
-    let end = table(&mut out);
-    rt.stdout().write_all(&out[..end])
+    rt.stdout().write_all(table().as_bytes())
 }

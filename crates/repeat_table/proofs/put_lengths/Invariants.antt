@@ -1,10 +1,11 @@
--- `repeat_table::put_lengths` meets its contract. The invariant: the lines of the lengths below i are put (`LinesPut`).
-use Prim.Native.Nat.{◌-◌, ◌≤◌}
-use Rattle.repeat_table.proofs.Listed.{LinesPut}
+-- `repeat_table::put_lengths` meets its contract. The invariant: the lines of the lengths so far are put.
+use mathlib.Core.Path.{◌≡◌}
+use mathlib.Core.List.{◌++◌}
+use lib.ListN.{take}
+use Rattle.model.specs.Computed.Lists.{spread}
+use Rattle.printing.specs.Lines.{number_line}
+use Rattle.repeat_table.specs.Lengths.{lengths}
 use Rattle.repeat_table.proofs.put_lengths.Given as goal
 
-abbrev pub invariant-loop-i : goal.invariant-loop-i
-invariant-loop-i l = (l.i ≤ l.count) × LinesPut l.initial.out l.initial.word l.at l.i l.out l.word l.next
-
-abbrev pub decreases-loop-i : goal.decreases-loop-i
-decreases-loop-i l = l.count - l.i
+abbrev pub invariant-loop-number : goal.invariant-loop-number
+invariant-loop-number g l = l.text ≡ l.initial.text ++ spread number_line (take l.number (lengths g.row.N))

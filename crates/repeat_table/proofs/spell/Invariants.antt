@@ -5,6 +5,3 @@ use Rattle.repeat_table.proofs.spell.Given as goal
 
 abbrev pub invariant-loop-i : goal.invariant-loop-i
 invariant-loop-i l = SpelledFrom (length l.initial.word) l.number l.word l.i l.rest
-
-abbrev pub decreases-loop-i : goal.decreases-loop-i
-decreases-loop-i l = l.i
