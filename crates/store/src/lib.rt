@@ -13,21 +13,16 @@ ghost use Rattle.calls.specs.Query.{query_call};
 ghost use Rattle.calls.specs.QueryTwo.{query_two_call};
 ghost use Rattle.calls.specs.Change.{returning, open_call, insert_call, remove_call};
 ghost use Rattle.calls.specs.Card.{read_call, write_call};
-ghost use Rattle.store.specs.Store.{numbers, returned, wrote_of};
+ghost use Rattle.store.specs.Store.{numbers, returned, read_of, wrote_of};
 
-use checks::Standing;
-use model::{
-    Answer, HEAD_BYTES, MOST_LABEL, QueryReply, Refusal, RouteReply, SearchReply, TRIPLE_BYTES,
-    TwoReply,
-};
+use model::{Edge, HEAD_BYTES, MOST_LABEL, Refusal, SearchReply, Size, TRIPLE_BYTES};
 use patterns::Folded;
 
 // "The record holds the number of places and k", and "gains eight totals, the legs of each colour" (document 02, Four): of labels 1 to 8. Only the
 // query looks at totals.
 #[derive(Clone, Copy)]
 pub struct Header {
-    pub vertices: u32,
-    pub longest: u32,
+    pub size: Size,
     pub totals: [u32; MOST_LABEL],
 }
 
@@ -35,132 +30,93 @@ pub struct Header {
 #[derive(Clone, Copy)]
 pub struct Changed {
     pub header: Header,
-    pub answer: Answer,
-}
-
-// The length of a written card, or the refusal.
-#[derive(Clone, Copy)]
-pub enum Written {
-    Length(usize),
-    Refused(Refusal),
-}
-
-// What a change hands back, by its answer: the header given, or one with those numbers and the totals of the edges that then stand.
-fn hand_back(given: Header, vertices: u32, longest: u32, edges: &[u32], answer: Answer) -> Changed
-    requires { answer_of answer ≡ 0 → length edges.now ≤ most_edges }
-    ensures { returned result ≡ returning (answer_of answer) (numbers given) (record { vertices = vertices; longest = longest }) edges.now }
-{
-    if let Answer::Refused(refusal) = answer {
-        return Changed {
-            header: given,
-            answer: Answer::Refused(refusal),
-        };
-    }
-    Changed {
-        header: Header {
-            vertices: vertices,
-            longest: longest,
-            totals: totals::totals(edges),
-        },
-        answer: Answer::Accepted,
-    }
+    pub answer: Result<(), Refusal>,
 }
 
 impl Header {
+    // The header with the answer of a change: if it is accepted, with the totals of the edges that then stand.
+    fn hand_back(self, answer: Result<(), Refusal>, edges: &[u32]) -> Changed
+        requires { answer_of answer ≡ 0 → length edges.now ≤ most_edges }
+        ensures { returned result ≡ returning (answer_of answer) (numbers self) self.size edges.now }
+    {
+        match answer {
+            Ok(()) => Changed {
+                header: Header {
+                    size: self.size,
+                    totals: totals::totals(edges),
+                },
+                answer,
+            },
+            Err(_) => Changed {
+                header: self,
+                answer,
+            },
+        }
+    }
+
     // Opening. It is lent no work memory.
     pub fn open(self, edges: &mut [u32], index: &mut [u64]) -> Changed
         ensures { Meets (open_call (numbers self) (lent edges.old index.old []))
             (returned result) (lent edges.new index.new []) }
     {
-        let answer = changes::open(self.vertices, self.longest, edges, index);
-        hand_back(self, self.vertices, self.longest, edges, answer)
+        let answer = changes::open(self.size, edges, index);
+        self.hand_back(answer, edges)
     }
 
     // Insertion (laying).
     pub fn insert(
         self,
-        from: u32,
-        label: u32,
-        to: u32,
+        edge: Edge,
         edges: &mut [u32],
         index: &mut [u64],
         work: &mut [u64],
     ) -> Changed
-        ensures { Meets (insert_call (numbers self) from label to
-            (lent edges.old index.old work.old))
+        ensures { Meets (insert_call (numbers self) edge.from edge.label edge.to (lent edges.old index.old work.old))
             (returned result) (lent edges.new index.new work.new) }
     {
-        let answer = changes::insert(
-            self.vertices,
-            self.longest,
-            from,
-            label,
-            to,
-            edges,
-            index,
-            work,
-        );
-        hand_back(self, self.vertices, self.longest, edges, answer)
+        let answer = changes::insert(self.size, edge, edges, index, work);
+        self.hand_back(answer, edges)
     }
 
     // Removal (lifting).
     pub fn remove(
         self,
-        from: u32,
-        label: u32,
-        to: u32,
+        edge: Edge,
         edges: &mut [u32],
         index: &mut [u64],
         work: &mut [u64],
     ) -> Changed
-        ensures { Meets (remove_call (numbers self) from label to
-            (lent edges.old index.old work.old))
+        ensures { Meets (remove_call (numbers self) edge.from edge.label edge.to (lent edges.old index.old work.old))
             (returned result) (lent edges.new index.new work.new) }
     {
-        let answer = changes::remove(
-            self.vertices,
-            self.longest,
-            from,
-            label,
-            to,
-            edges,
-            index,
-            work,
-        );
-        hand_back(self, self.vertices, self.longest, edges, answer)
+        let answer = changes::remove(self.size, edge, edges, index, work);
+        self.hand_back(answer, edges)
     }
 }
 
-// Reads a layout card. The header of a refusal is all zero: no record.
-pub fn read_card(card: &[u8], edges: &mut [u32], index: &mut [u64], work: &mut [u64]) -> Changed
+// Reads a layout card, and hands back its header.
+pub fn read_card(
+    card: &[u8],
+    edges: &mut [u32],
+    index: &mut [u64],
+    work: &mut [u64],
+) -> Result<Header, Refusal>
     ensures { Meets (read_call card.now (lent edges.old index.old work.old))
-        (returned result) (lent edges.new index.new work.new) }
+        (read_of result) (lent edges.new index.new work.new) }
 {
-    let read = changes::read(card, edges, index, work);
-    let none = Header {
-        vertices: 0,
-        longest: 0,
-        totals: [0; MOST_LABEL],
-    };
-    let answer = read.answer;
-    hand_back(none, read.vertices, read.longest, edges, answer)
+    let size = changes::read(card, edges, index, work)?;
+    let totals = totals::totals(edges);
+    Ok(Header { size, totals })
 }
 
 // Writes the layout card to the front of the output, and returns its length.
-pub fn write_card(header: Header, edges: &[u32], output: &mut [u8]) -> Written
-    ensures { Meets (write_call (numbers header).size (lent_out edges.now [] output.old))
+pub fn write_card(header: Header, edges: &[u32], output: &mut [u8]) -> Result<usize, Refusal>
+    ensures { Meets (write_call header.size (lent_out edges.now [] output.old))
         (wrote_of result) (lent_out edges.now [] output.new) }
 {
-    let vertices = header.vertices;
-    let longest = header.longest;
-    let standing = card_writing::check_write(vertices, longest, edges, output);
-    match standing {
-        Standing::Refused(refusal) => Written::Refused(refusal),
-        Standing::Edges(n) => {
-            card_writing::write(vertices, longest, &edges[..n], output);
-            Written::Length(HEAD_BYTES + TRIPLE_BYTES * n)
-        }
-    }
+    let n = card_writing::check_write(header.size, edges, output)?;
+    card_writing::write(header.size, &edges[..n], output);
+    Ok(HEAD_BYTES + TRIPLE_BYTES * n)
 }
 
 // The query (question). A label whose total is 0 is a no at once (document 02, Four). Edge and work memory are looked at only if the pattern repeats
@@ -173,16 +129,14 @@ pub fn query(
     edges: &[u32],
     index: &[u64],
     work: &mut [u64],
-) -> QueryReply
+) -> Result<bool, Refusal>
     ensures { Meets (query_call (numbers header) start destination pattern.now
         (lent edges.now index.now work.old))
         (answered_of result) (lent edges.now index.now work.new) }
 {
-    let totals = header.totals;
     query::query(
-        header.vertices,
-        header.longest,
-        totals,
+        header.size,
+        header.totals,
         start,
         destination,
         pattern,
@@ -202,16 +156,14 @@ pub fn query_two(
     edges: &[u32],
     index: &[u64],
     work: &mut [u64],
-) -> TwoReply
+) -> Result<Option<u32>, Refusal>
     ensures { Meets (query_two_call (numbers header) start destination first.now second.now
         (lent edges.now index.now work.old))
         (two_answered_of result) (lent edges.now index.now work.new) }
 {
-    let totals = header.totals;
     query_two::query_two(
-        header.vertices,
-        header.longest,
-        totals,
+        header.size,
+        header.totals,
         start,
         destination,
         first,
@@ -231,13 +183,12 @@ pub fn level_search(
     level_limit: u32,
     edges: &[u32],
     work: &mut [u64],
-) -> SearchReply
-    ensures { Meets (search_call (numbers header).size start destination pattern.now level_limit
+) -> Result<SearchReply, Refusal>
+    ensures { Meets (search_call header.size start destination pattern.now level_limit
         (lent edges.now [] work.old)) (reply_of result) (lent edges.now [] work.new) }
 {
     level_search::search(
-        header.vertices,
-        header.longest,
+        header.size,
         start,
         destination,
         pattern,
@@ -256,21 +207,12 @@ pub fn route(
     edges: &[u32],
     walk: &mut [u32],
     work: &mut [u64],
-) -> RouteReply
-    ensures { Meets (route_call (numbers header).size start destination pattern.now
+) -> Result<Option<u32>, Refusal>
+    ensures { Meets (route_call header.size start destination pattern.now
         (lent_out edges.now work.old walk.old))
         (routed_of result) (lent_out edges.now work.new walk.new) }
 {
-    route::route(
-        header.vertices,
-        header.longest,
-        start,
-        destination,
-        pattern,
-        edges,
-        walk,
-        work,
-    )
+    route::route(header.size, start, destination, pattern, edges, walk, work)
 }
 
 // The length of a pattern's minimum repeat, which is the pattern's first labels, looked up in the table (document 02, One), and how many times it

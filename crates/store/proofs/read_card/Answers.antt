@@ -1,26 +1,29 @@
--- `store::read_card` meets its contract: the card reading's, with the header that is handed back.
-use mathlib.Core.Path.{◌≡◌, refl, sym, ◌∙◌}
+-- `store::read_card` meets its contract: the card reading's, with the header that is handed back, or none.
+use mathlib.Core.Path.{◌≡◌, sym, ap₂}
 use mathlib.Core.List.{List}
-use Prim.Native.Nat.{ℕ, zero, suc}
+use Prim.Native.Nat.{ℕ}
 use native.Mathlib.Omega.{arith}
-use Rattle.calls.specs.Call.{Size, Header}
-use Rattle.calls.specs.Change.{returning}
+use Rattle.std.proofs.Common.{rules, Err}
+use Rattle.model.specs.Replies.{number_of}
+use Rattle.model.proofs.Replies.{number_some}
+use Rattle.calls.specs.Call.{Size, Returned}
 use Rattle.calls.specs.Card.{read_call}
-use Rattle.calls.proofs.Change.{handing_meets, read_few}
+use Rattle.calls.proofs.Change.{handed_some, handing_meets, read_few}
 use Rattle.store.proofs.read_card.Goals as goal
 
--- an accepted one was lent at most 1,024 edge slots
-pub hand_back-requires : goal.hand_back-requires
-hand_back-requires c e =
-    omega (arith, read_few _ _ (sym c.read-read.ensures.meets.reply_is ∙ e), c.read-read.auto.edges)
+pub returns-in_err-size : goal.returns-in_err-size
+unfolding read_call
+returns-in_err-size c =
+    let r = c.in_err-size.field-0.0 in
+    let k : c.from_residual.result ≡ Err r = search rules in
+    rw k (handing_meets _ _ c.in_err-size.ensures (rw (handed_some _ _ _ (number_of r) (number_some r))))
 
--- the size that is handed back counts only if the card is accepted
-by_size : (given : Header) {size size' : Size} (edges : List ℕ) (n : ℕ) → (n ≡ 0 → size ≡ size') → returning n given size' edges ≡ returning n given size edges
-by_size given edges zero e = rw (e refl) refl
-by_size given edges (suc n) e = refl
+-- an accepted one was lent at most 1,024 edge slots
+pub totals-totals-requires : goal.totals-totals-requires
+totals-totals-requires c = omega (arith, read_few _ _ (sym c.in_ok-size.ensures.0.reply_is), c.read.auto.edges)
 
 pub returns : goal.returns
 unfolding read_call
 returns c =
-    let read = c.read-read.ensures in
-    handing_meets _ _ read.meets (c.hand_back.ensures ∙ by_size _ _ _ read.size)
+    handing_meets _ _ c.in_ok-size.ensures.0
+    (ap₂ (λ (s : Size) (t : List ℕ). record { header = record { size = s; totals = t }; answer = 0 }) (sym c.in_ok-size.ensures.1) c.totals-totals.ensures)
