@@ -1,20 +1,13 @@
--- The loops that zero memory, copy it, and put what a function makes of each number, for both widths.
+-- The loops that copy memory, for both widths.
 use mathlib.Core.Path.{◌≡◌, sym, ◌∙◌}
-use mathlib.Core.List.{List, map, ◌++◌}
+use mathlib.Core.List.{List, ◌++◌}
 use Prim.Native.Nat.{ℕ, ◌+◌, ◌-◌, ◌^◌, ◌≤◌, ◌<◌}
 use native.Mathlib.Omega.{arith}
-use lib.ListN.{length, get_or, take, drop, set, length-append, length-drop, length-replicate, length-map, get_or-replicate, get_or-append}
+use lib.ListN.{length, get_or, take, drop, set, length-append, length-drop}
 use lib.Seq.{get_or-take, get_or-drop, get_or-append-add, length-take-le}
-use Rattle.model.specs.Lists.{zeroed}
-use Rattle.model.proofs.Lists.{get_d_in, get_d_map}
+use Rattle.model.proofs.Lists.{get_d_in}
 use Rattle.memory.specs.Widths.{Narrow}
 use Rattle.memory.proofs.Mix.{Mixed, front_none, front_turn, front_end}
-
-pub zero_start : (l : List ℕ) → Mixed (zeroed l) l l 0
-zero_start l = front_none (length-replicate (length l) 0)
-
-pub zero_turn : {l cur : List ℕ} {i : ℕ} → Mixed (zeroed l) l cur i → i < length cur → Mixed (zeroed l) l (set cur i 0) (i + 1)
-zero_turn {l} {cur} {i} m h = front_turn m h (sym (get_or-replicate (length l) i 0 0 (omega arith)))
 
 -- the numbers l go to the front of s
 module _ (l s : List ℕ) (room : length l ≤ length s) where
@@ -25,9 +18,6 @@ module _ (l s : List ℕ) (room : length l ≤ length s) where
   copy_start = front_none (simp (length-append, length-drop) (omega arith))
 
   module _ {cur : List ℕ} {i : ℕ} (m : Mixed copied s cur i) where
-    pub copy_turn : i < length l → Mixed copied s (set cur i (get_or l i 0)) (i + 1)
-    copy_turn h = front_turn m (omega arith) (sym (get_or-append l (drop (length l) s) 0 i h))
-
     pub copy_end : length l ≤ i → cur ≡ copied
     copy_end h = front_end m (λ k u _. sym (behind k (omega arith)))
       where
@@ -49,11 +39,3 @@ module _ (l s : List ℕ) (room : length l ≤ length s) where
   narrow_fits f i h =
       let inside : i < length (take (length l) s) = omega (arith, length-take-le (length l) s room) in
       f (get_or s i 0) (rw (get_or-take (length l) s i 0 h) at (get_d_in (take (length l) s) i inside))
-
--- f x is put for each x
-pub map_start : (f : ℕ → ℕ) (l : List ℕ) {to : List ℕ} → length l ≡ length to → Mixed (map f l) to to 0
-map_start f l e = front_none (length-map l f ∙ e)
-
-pub map_turn : (f : ℕ → ℕ) (l : List ℕ) {to cur : List ℕ} {i v : ℕ} → Mixed (map f l) to cur i → i < length l → v ≡ f (get_or l i 0)
-    → Mixed (map f l) to (set cur i v) (i + 1)
-map_turn f l {i = i} m h e = front_turn m (omega (arith, m.same, m.size, length-map l f)) (e ∙ sym (get_d_map f l i h))

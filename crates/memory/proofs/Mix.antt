@@ -1,4 +1,4 @@
--- A loop that turns a list into another of the same length, one store a turn: from the front or from the back.
+-- A loop that turns a list into another of the same length, one store a turn, from the front.
 use mathlib.Core.Path.{◌≡◌, refl, sym, ◌∙◌}
 use mathlib.Core.List.{List}
 use Prim.Native.Nat.{ℕ, ◌+◌, ◌≤◌, ◌<◌}
@@ -17,11 +17,8 @@ pub record Mixed (a b cur : List ℕ) (i : ℕ) : Type 0 where
 
 -- from the front b turns into a
 module _ {a b : List ℕ} where
-  pub front_start : (i : ℕ) → length a ≡ length b → ((k : ℕ) → k < i → get_or b k 0 ≡ get_or a k 0) → Mixed a b b i
-  front_start i e f = record { same = e; size = refl; front = f; back = λ k h. refl }
-
   pub front_none : length a ≡ length b → Mixed a b b 0
-  front_none e = front_start 0 e (λ k h. absurd (omega arith))
+  front_none e = record { same = e; size = refl; front = λ k h. absurd (omega arith); back = λ k h. refl }
 
   module _ {cur : List ℕ} {i : ℕ} (m : Mixed a b cur i) where
     pub front_turn : {v : ℕ} → i < length cur → v ≡ get_or a i 0 → Mixed a b (set cur i v) (i + 1)
@@ -41,23 +38,3 @@ module _ {a b : List ℕ} where
     -- all slots are stored
     pub front_full : length cur ≤ i → cur ≡ a
     front_full h = front_end (λ k l u. absurd (omega arith))
-
--- from the back a turns into b
-module _ {a b : List ℕ} where
-  pub back_start : (i : ℕ) → length a ≡ length b → ((k : ℕ) → i ≤ k → get_or a k 0 ≡ get_or b k 0) → Mixed a b a i
-  back_start i e f = record { same = e; size = e; front = λ k h. refl; back = f }
-
-  module _ {cur : List ℕ} {i : ℕ} (m : Mixed a b cur i) where
-    pub back_turn : {v j : ℕ} (at : ℕ) → i ≡ at + 1 → j ≡ at → at < length cur → v ≡ get_or b at 0 → Mixed a b (set cur at v) j
-    back_turn {v} at p q h e =
-        record {
-          same = m.same;
-          size = length-set cur at v ∙ m.size;
-          front = λ k l. get_d_set cur at v k _ h (λ r. absurd (omega arith)) (λ d. m.front k (omega arith));
-          back = λ k l. get_d_set cur at v k _ h (λ r. rw r e) (λ d. m.back k (omega arith));
-        }
-
-    pub back_end : ((k : ℕ) → k < i → get_or a k 0 ≡ get_or b k 0) → cur ≡ b
-    back_end f =
-        ext_get_or 0 cur b m.size
-        (λ k l. elim (dec_lt k i) [ yes h ↦ m.front k h ∙ f k h | no h ↦ m.back k (omega arith) ])

@@ -2,7 +2,6 @@
 #![tactic(auto)]
 
 ghost use Rattle.std.specs.Prelude.{◌≡◌, ◌==◌, ℕ, List, [], ◌∷◌, ◌++◌, ◌≤◌, length, take, drop, refl};
-ghost use Rattle.model.specs.Lists.{zeroed};
 ghost use Rattle.model.specs.Edges.{standing};
 ghost use Rattle.model.specs.Computed.Edges.{zeros?};
 ghost use Rattle.memory.specs.Widths.{Narrow};
@@ -64,76 +63,6 @@ pub fn standing<T: Number>(slots: &[T]) -> usize
         .iter()
         .position(|slot| slot.is_zero())
         .unwrap_or(slots.len())
-}
-
-pub fn clear_u32(slots: &mut [u32])
-    ensures { slots.new ≡ zeroed slots.old }
-{
-    slots.fill(0);
-}
-
-pub fn clear_u64(slots: &mut [u64])
-    ensures { slots.new ≡ zeroed slots.old }
-{
-    let mut slot = 0;
-    while slot < slots.len() {
-        slots[slot] = 0;
-        slot += 1;
-    }
-}
-
-// Whether every slot is zero.
-pub fn all_zero_u32(slots: &[u32]) -> bool
-    ensures { result ≡ zeros? slots.now }
-{
-    let mut i = 0;
-    while i < slots.len() {
-        if slots[i] != 0 {
-            return false;
-        }
-        i += 1;
-    }
-    true
-}
-
-pub fn all_zero_u64(slots: &[u64]) -> bool
-    ensures { result ≡ zeros? slots.now }
-{
-    let mut i = 0;
-    while i < slots.len() {
-        if slots[i] != 0 {
-            return false;
-        }
-        i += 1;
-    }
-    true
-}
-
-// How many slots stand before the first zero.
-pub fn standing_u32(slots: &[u32]) -> usize
-    ensures { result ≡ length (standing slots.now) }
-{
-    let mut i = 0;
-    while i < slots.len() {
-        if slots[i] == 0 {
-            return i;
-        }
-        i += 1;
-    }
-    i
-}
-
-pub fn standing_u64(slots: &[u64]) -> usize
-    ensures { result ≡ length (standing slots.now) }
-{
-    let mut i = 0;
-    while i < slots.len() {
-        if slots[i] == 0 {
-            return i;
-        }
-        i += 1;
-    }
-    i
 }
 
 // Copies numbers to the front of wider slots, and back.
