@@ -4,10 +4,10 @@ use mathlib.Core.List.{List}
 use Prim.Native.Nat.{ℕ}
 use Rattle.model.specs.Edges.{Graph}
 use Rattle.build.specs.Build.{Builds}
-use Rattle.build.specs.declared.Built.{Built}
+use Rattle.std.proofs.Common.{Option}
 use Rattle.bench_c.specs.Bench.{BuildsNumber, built_number}
 
-pub builds_number : {g : Graph} {order index w index' w' : List ℕ} {r : Built} → Builds g order index w index' w' r → (b : Built) → r ≡ b
+pub builds_number : {g : Graph} {order index w index' w' : List ℕ} {r : Option ℕ} → Builds g order index w index' w' r → (b : Option ℕ) → r ≡ b
     → BuildsNumber g order index w index' w' (built_number b)
 builds_number m b e =
     record {

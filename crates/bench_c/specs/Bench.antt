@@ -1,15 +1,13 @@
 -- Replies as numbers, for the benchmark.
-use Rattle.std.specs.Prelude.{◌≡◌, List, ℕ, length}
+use Rattle.std.specs.Prelude.{◌≡◌, Option, Some, None, List, ℕ, length}
 use Rattle.model.specs.Edges.{Graph}
 use Rattle.model.specs.Query.{Answered, Yes, No, Refused}
 use Rattle.calls.specs.Call.{Outcome}
 use Rattle.build.specs.Build.{built_of, index_of, Saved}
-use Rattle.build.specs.declared.Built.{Built}
-use Rattle.build.specs.declared.Built.TheVariants.{Entries, TooMany}
 
-abbrev pub built_number : Built → ℕ
-built_number (Entries n) = n
-built_number TooMany = 18446744073709551615
+abbrev pub built_number : Option ℕ → ℕ
+built_number (Some n) = n
+built_number None = 18446744073709551615
 
 abbrev pub answer_number : Answered → ℕ
 answer_number No = 0

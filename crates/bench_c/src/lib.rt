@@ -11,8 +11,7 @@ ghost use Rattle.order.specs.Counting.{Countable, Counts};
 ghost use Rattle.build.specs.Build.{Buildable};
 ghost use Rattle.bench_c.specs.Bench.{BuildsNumber, QueriesNumber};
 
-use build::Built;
-use model::{MOST_LABEL, QueryReply};
+use model::{MOST_LABEL, Size};
 
 // The access order, as order::counted.
 #[unsafe(no_mangle)]
@@ -37,10 +36,9 @@ pub extern "C" fn bench_build(
     ensures { BuildsNumber (record { vertices = vertices; longest = longest; edges = edges.now })
         order.now index.old work.old index.new work.new result }
 {
-    let built = build::build(vertices, longest, edges, order, index, work);
-    match built {
-        Built::Entries(n) => n as u64,
-        Built::TooMany => 18446744073709551615,
+    match build::build(Size { vertices, longest }, edges, order, index, work) {
+        Some(n) => n as u64,
+        None => u64::MAX,
     }
 }
 
@@ -60,8 +58,7 @@ pub extern "C" fn bench_query(
         pattern.now (lent edges.now index.now work.old)) result work.new }
 {
     let reply = query::query(
-        vertices,
-        longest,
+        Size { vertices, longest },
         [1; MOST_LABEL],
         start,
         destination,
@@ -71,9 +68,9 @@ pub extern "C" fn bench_query(
         work,
     );
     match reply {
-        QueryReply::No => 0,
-        QueryReply::Yes => 1,
-        QueryReply::Refused(_) => 2,
+        Ok(false) => 0,
+        Ok(true) => 1,
+        Err(_) => 2,
     }
 }
 

@@ -9,7 +9,6 @@ use lib.Seq.{drop-cons}
 use Rattle.model.specs.Lists.{from}
 use Rattle.model.specs.Replies.{number_of, answer_of}
 use Rattle.model.specs.declared.Refusal.{Refusal}
-use Rattle.model.specs.declared.Answer.TheVariants.{Accepted, Refused}
 use Rattle.model.proofs.Tests.{test_true, test_false, test_eq}
 use Rattle.model.proofs.Replies.{number_some}
 use Rattle.calls.specs.Call.{Header, Memory, Outcome, Meets, Returned}
@@ -82,13 +81,14 @@ module _ {words : List ℕ} {m : Memory} {c : Outcome Returned} where
   pub unchanged : (length words ≡ record_numbers → ⊥) → ChangesInC words m c other_record words m
   unchanged d = record { meets = rw (other words d) untouched; words_after_lem = rw (other words d) refl }
 
-  module _ (e : length words ≡ record_numbers) {made : Changed} {m' : Memory} {r : ℕ} (l : Meets c (returned made) m') where
+  module _ (e : length words ≡ record_numbers) {told : Returned} {m' : Memory} {r : ℕ} (l : Meets c told m') where
     -- a call that hands back the record given with a refusal
-    pub changed : {words' : List ℕ} → (1 ≤ c.reply.answer → c.reply.header ≡ header_in words) → HandsBack made r words' → ChangesInC words m c r words' m'
-    changed {words'} hands b =
+    pub changed : {made : Changed} {words' : List ℕ} → told ≡ returned made
+        → (1 ≤ c.reply.answer → c.reply.header ≡ header_in words) → HandsBack made r words' → ChangesInC words m c r words' m'
+    changed {made} {words'} is hands b =
         record {
-          meets = rw (ten words e) (called (λ (x : Returned). x.answer) l b.number);
-          words_after_lem = rw (ten words e) (b.words_after_lem ∙ ap (λ (k : Returned). words_of k.header) l.reply_is ∙ go c.reply.answer refl);
+          meets = rw (ten words e) (called (λ (x : Returned). x.answer) l (b.number ∙ sym (ap (λ (x : Returned). x.answer) is)));
+          words_after_lem = rw (ten words e) (b.words_after_lem ∙ ap (λ (k : Returned). words_of k.header) (sym is ∙ l.reply_is) ∙ go c.reply.answer refl);
         }
       where
         go : (n : ℕ) → c.reply.answer ≡ n → words_of c.reply.header ≡ words_after words n c.reply.header
@@ -96,9 +96,8 @@ module _ {words : List ℕ} {m : Memory} {c : Outcome Returned} where
         go (suc n) q = ap words_of (hands (omega (arith, q))) ∙ words_hold words e
 
     -- a card that is refused, and one that is accepted
-    pub card_refused : {refusal : Refusal} → made.answer ≡ Refused refusal → r ≡ number_of refusal → ChangesInC words m c r words m'
-    card_refused {refusal} told q =
-        let number : answer_of made.answer ≡ number_of refusal = ap answer_of told in
+    pub card_refused : (refusal : Refusal) → told.answer ≡ number_of refusal → r ≡ number_of refusal → ChangesInC words m c r words m'
+    card_refused refusal number q =
         record {
           meets = rw (ten words e) (called (λ (x : Returned). x.answer) l (q ∙ sym number));
           words_after_lem = rw (ten words e) (go c.reply.answer (sym (ap (λ (k : Returned). k.answer) l.reply_is) ∙ number));
@@ -108,10 +107,10 @@ module _ {words : List ℕ} {m : Memory} {c : Outcome Returned} where
         go zero e = absurd (omega (arith, e, number_some refusal))
         go (suc n) e = refl
 
-    pub card_accepted : {words' : List ℕ} → made.answer ≡ Accepted → HandsBack made r words' → ChangesInC words m c r words' m'
-    card_accepted {words'} told b =
-        let zero_is : c.reply.answer ≡ 0 = sym (ap (λ (k : Returned). k.answer) l.reply_is) ∙ ap answer_of told in
+    pub card_accepted : {made : Changed} {words' : List ℕ} → told ≡ returned made → told.answer ≡ 0 → HandsBack made r words' → ChangesInC words m c r words' m'
+    card_accepted {made} {words'} is none b =
+        let zero_is : c.reply.answer ≡ 0 = sym (ap (λ (k : Returned). k.answer) l.reply_is) ∙ none in
         record {
-          meets = rw (ten words e) (called (λ (x : Returned). x.answer) l b.number);
-          words_after_lem = rw (ten words e, zero_is) (b.words_after_lem ∙ ap (λ (k : Returned). words_of k.header) l.reply_is);
+          meets = rw (ten words e) (called (λ (x : Returned). x.answer) l (b.number ∙ sym (ap (λ (x : Returned). x.answer) is)));
+          words_after_lem = rw (ten words e, zero_is) (b.words_after_lem ∙ ap (λ (k : Returned). words_of k.header) (sym is ∙ l.reply_is));
         }

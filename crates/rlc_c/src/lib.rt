@@ -16,9 +16,9 @@ ghost use Rattle.records.specs.Record.{record_numbers};
 ghost use Rattle.replies.specs.InC.{reply_unit, answered_in_c, two_answered_in_c, replied_in_c, routed_in_c};
 ghost use Rattle.rlc_c.specs.Interface.{header_in, other_record, in_c, HandsBack, ChangesInC, wrote_in_c};
 
-use model::{Answer, MOST_LABEL};
+use model::{Edge, MOST_LABEL, Size};
 use replies::UNIT;
-use store::{Changed, Header, Written};
+use store::{Changed, Header};
 
 // How many numbers a record has: vertices, longest pattern, and a total for each label.
 const RECORD: usize = 2 + MOST_LABEL;
@@ -31,8 +31,10 @@ fn header_in(words: &[u32]) -> Header
     ensures { numbers result ≡ header_in words.now }
 {
     Header {
-        vertices: words[0],
-        longest: words[1],
+        size: Size {
+            vertices: words[0],
+            longest: words[1],
+        },
         totals: [
             words[2], words[3], words[4], words[5], words[6], words[7], words[8], words[9],
         ],
@@ -45,10 +47,8 @@ fn hand_back(words: &mut [u32], changed: Changed) -> u32
     ensures { HandsBack changed result words.new }
 {
     let header = changed.header;
-    let totals = header.totals;
-    records::write_record(words, header.vertices, header.longest, totals);
-    let answer = changed.answer;
-    replies::answer_number(answer)
+    records::write_record(words, header.size, header.totals);
+    replies::answer_number(changed.answer)
 }
 
 // Opening.
@@ -61,8 +61,7 @@ pub extern "C" fn rlc_open(words: &mut [u32], edges: &mut [u32], index: &mut [u6
     if words.len() != RECORD {
         return OTHER_RECORD;
     }
-    let header = header_in(words);
-    let changed = header.open(edges, index);
+    let changed = header_in(words).open(edges, index);
     hand_back(words, changed)
 }
 
@@ -86,8 +85,7 @@ pub extern "C" fn rlc_insert(
     if words.len() != RECORD {
         return OTHER_RECORD;
     }
-    let header = header_in(words);
-    let changed = header.insert(from, label, to, edges, index, work);
+    let changed = header_in(words).insert(Edge { from, label, to }, edges, index, work);
     hand_back(words, changed)
 }
 
@@ -111,8 +109,7 @@ pub extern "C" fn rlc_remove(
     if words.len() != RECORD {
         return OTHER_RECORD;
     }
-    let header = header_in(words);
-    let changed = header.remove(from, label, to, edges, index, work);
+    let changed = header_in(words).remove(Edge { from, label, to }, edges, index, work);
     hand_back(words, changed)
 }
 
@@ -134,12 +131,16 @@ pub extern "C" fn rlc_read_card(
     if words.len() != RECORD {
         return OTHER_RECORD;
     }
-    let changed = store::read_card(card, edges, index, work);
-    let answer = changed.answer;
-    if let Answer::Refused(refusal) = answer {
-        return replies::refusal_number(refusal);
+    match store::read_card(card, edges, index, work) {
+        Ok(header) => hand_back(
+            words,
+            Changed {
+                header,
+                answer: Ok(()),
+            },
+        ),
+        Err(refusal) => u32::from(refusal),
     }
-    hand_back(words, changed)
 }
 
 // The query.
@@ -199,7 +200,7 @@ pub extern "C" fn rlc_query_two(
         index,
         work,
     );
-    replies::two_number(reply)
+    replies::found_number(reply)
 }
 
 // The level search (plain check).
@@ -255,7 +256,7 @@ pub extern "C" fn rlc_route(
     }
     let header = header_in(words);
     let reply = store::route(header, start, destination, pattern, edges, walk, work);
-    replies::route_number(reply)
+    replies::found_number(reply)
 }
 
 // Card writing.
@@ -270,10 +271,9 @@ pub extern "C" fn rlc_write_card(words: &[u32], edges: &[u32], output: &mut [u8]
         return OTHER_RECORD as u64 * UNIT;
     }
     let header = header_in(words);
-    let written = store::write_card(header, edges, output);
-    match written {
-        Written::Length(length) => length as u64,
-        Written::Refused(refusal) => replies::refused_number(refusal),
+    match store::write_card(header, edges, output) {
+        Ok(length) => length as u64,
+        Err(refusal) => replies::refused_number(refusal),
     }
 }
 
@@ -282,8 +282,7 @@ pub extern "C" fn rlc_write_card(words: &[u32], edges: &[u32], output: &mut [u8]
 pub extern "C" fn rlc_minimum_repeat(pattern: &[u8]) -> u32
     ensures { Folds pattern.now result (times_written pattern.now) }
 {
-    let folded = store::minimum_repeat(pattern);
-    folded.length as u32
+    store::minimum_repeat(pattern).length as u32
 }
 
 // The same, computed.
@@ -291,8 +290,7 @@ pub extern "C" fn rlc_minimum_repeat(pattern: &[u8]) -> u32
 pub extern "C" fn rlc_minimum_repeat_computed(pattern: &[u8]) -> u32
     ensures { Folds pattern.now result (times_written pattern.now) }
 {
-    let folded = store::minimum_repeat_computed(pattern);
-    folded.length as u32
+    store::minimum_repeat_computed(pattern).length as u32
 }
 
 // How many times a pattern's minimum repeat was written.
@@ -300,6 +298,5 @@ pub extern "C" fn rlc_minimum_repeat_computed(pattern: &[u8]) -> u32
 pub extern "C" fn rlc_times_written(pattern: &[u8]) -> u32
     ensures { Folds pattern.now (folded_length pattern.now) result }
 {
-    let folded = store::minimum_repeat_computed(pattern);
-    folded.times as u32
+    store::minimum_repeat_computed(pattern).times as u32
 }

@@ -1,4 +1,5 @@
 -- `rlc_c::rlc_insert` meets its contract.
+use mathlib.Core.Path.{refl}
 use Rattle.rlc_c.proofs.Handing.{unchanged, changed, insert_given}
 use Rattle.rlc_c.proofs.rlc_insert.Goals as goal
 
@@ -7,4 +8,4 @@ returns-then-words-ne-RECORD c = unchanged c.if-words-ne-RECORD.true
 
 pub returns : goal.returns
 returns c =
-    changed c.if-words-ne-RECORD.false (rw c.header_in-header.ensures at c.insert-changed.ensures) (insert_given _ _ _ _ _) c.hand_back.ensures
+    changed c.if-words-ne-RECORD.false (rw c.header_in.ensures at c.insert-changed.ensures) refl (insert_given _ _ _ _ _) c.hand_back.ensures

@@ -5,7 +5,7 @@ use Rattle.model.proofs.Patterns.{folded_short, folds}
 use Rattle.rlc_c.proofs.rlc_minimum_repeat.Goals as goal
 
 pub overflow_cast-result : goal.overflow_cast-result
-overflow_cast-result c = omega (arith, c.minimum_repeat-folded.ensures.is, folded_short c.args.pattern.now)
+overflow_cast-result c = omega (arith, c.minimum_repeat.ensures.is, folded_short c.args.pattern.now)
 
 pub returns : goal.returns
-returns c = folds (c.minimum_repeat-folded.ensures.is, refl)
+returns c = folds (c.minimum_repeat.ensures.is, refl)

@@ -8,4 +8,4 @@ returns-then-words-ne-RECORD c = rw (other c.args.words.now c.if-words-ne-RECORD
 
 pub returns : goal.returns
 returns c =
-    rw (ten c.args.words.now c.if-words-ne-RECORD.false) (called routed_in_c (rw (size_is c.header_in-header.ensures) at c.route-reply.ensures) c.route_number.ensures)
+    rw (ten c.args.words.now c.if-words-ne-RECORD.false) (called routed_in_c (rw (size_is c.header_in-header.ensures) at c.route-reply.ensures) c.found_number.ensures.route)
