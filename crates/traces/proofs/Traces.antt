@@ -7,13 +7,13 @@ use native.Mathlib.Omega.{arith}
 use lib.ListN.{length}
 use Rattle.model.specs.Lists.{keep, filled}
 use Rattle.model.specs.Replies.{number_of, answer_of}
-use Rattle.model.specs.declared.Answer.{Answer}
-use Rattle.model.specs.declared.Answer.TheVariants.{Accepted, Refused}
+use Rattle.std.proofs.Common.{Result, Ok, Err}
+use Rattle.model.specs.declared.Refusal.{Refusal}
 use Rattle.model.proofs.Replies.{number_some}
 use Rattle.calls.specs.Call.{lent, Meets}
 use Rattle.store.specs.Store.{numbers, returned}
-use Rattle.store.specs.declared.Header.{Header}
 use Rattle.store.specs.declared.Changed.{Changed}
+use Rattle.store.specs.declared.Header.{Header}
 use Rattle.demands.specs.Ledger.{Given, Fed, book_entries, ruling, LedgerReply, Account, ledger}
 use Rattle.demands.specs.Terms.{reply_to, blank, standing_graph, Missed}
 use Rattle.demands.specs.Run.Station.{Call, Station, change_on, change, header_after, after, run, fed_by, fed_all}
@@ -25,9 +25,9 @@ use Rattle.traces.specs.Traces.{Held, Step, opens, inserts, removes, reads, kept
 -- ---- one call
 
 -- the header kept, by the answer
-same_header : (answer : Answer) (returned before : Header) → numbers (kept answer returned before) ≡ header_after (answer_of answer) (numbers before) (numbers returned)
-same_header Accepted returned before = refl
-same_header (Refused r) returned before = go (number_of r) (number_some r)
+same_header : (answer : Result (Unit {0}) Refusal) (returned before : Header) → numbers (kept answer returned before) ≡ header_after (answer_of answer) (numbers before) (numbers returned)
+same_header (Ok _) returned before = refl
+same_header (Err r) returned before = go (number_of r) (number_some r)
   where
     go : (n : ℕ) → 1 ≤ n → numbers before ≡ header_after n (numbers before) (numbers returned)
     go zero k = absurd (omega arith)

@@ -1,10 +1,10 @@
 -- Demand 3, of what `store` promises. A trace is what a program has seen that calls `store` again and again on one station. Of each call only
 -- this is known: what it was given, what it returned, what memory held before and afterwards, and that the contract of that function holds of
 -- these, word for word as it stands in `store`. (src/ shows from those contracts that each call is such a step.)
-use Rattle.std.specs.Prelude.{◌≡◌, ◌⊎◌, Bool, List, [], ◌∷◌, ℕ, T, length}
+use Rattle.std.specs.Prelude.{◌≡◌, ◌⊎◌, Bool, Result, Ok, Err, List, [], ◌∷◌, ℕ, T, length, replicate}
 use Rattle.model.specs.Lists.{◌∈◌, keep, filled, Bytes}
-use Rattle.model.specs.declared.Answer.{Answer}
-use Rattle.model.specs.declared.Answer.TheVariants.{Accepted, Refused}
+use Rattle.model.specs.Limits.{most_label}
+use Rattle.model.specs.declared.Refusal.{Refusal}
 use Rattle.calls.specs.Call.{Memory, lent, Meets}
 use Rattle.calls.specs.Change.{open_call, insert_call, remove_call}
 use Rattle.calls.specs.Card.{read_call}
@@ -24,12 +24,18 @@ pub record Held : Type 0 where
 abbrev pub lent_to : Held → List ℕ → Memory
 lent_to held work = lent held.edges held.index work
 
+-- what a card reading returned, as the other calls return it. No record is a header that is all zero.
+abbrev pub changed_by : Result Header Refusal → Changed
+changed_by (Ok h) = record { header = h; answer = Ok tt }
+changed_by (Err r) =
+    record { header = record { size = record { vertices = 0; longest = 0 }; totals = replicate most_label 0 }; answer = Err r }
+
 -- One call: what it was given and the work memory lent to it; r is what it returned, edges and index what memory held afterwards. Insertion
 -- and removal are given the header kept. (What work memory held afterwards is not looked at: `left`.)
 pub data Step (held : Held) : Given → List ℕ → Changed → List ℕ → List ℕ → Type 0 where
   opens : {r : Changed} {edges index : List ℕ} (header : Header)
       → Meets (open_call (numbers header) (lent_to held [])) (returned r) (lent edges index [])
-      → Step held (opening header.vertices header.longest header.totals) [] r edges index
+      → Step held (opening header.size.vertices header.size.longest header.totals) [] r edges index
   inserts : {r : Changed} {edges index : List ℕ} (from label to : ℕ) (work left : List ℕ)
       → Meets (insert_call (numbers held.header) from label to (lent_to held work)) (returned r) (lent edges index left)
       → Step held (insertion from label to) work r edges index
@@ -41,9 +47,9 @@ pub data Step (held : Held) : Given → List ℕ → Changed → List ℕ → Li
       → Step held (card bytes small) work r edges index
 
 -- the header that is kept: the one returned if the call was accepted
-abbrev pub kept : Answer → (returned last : Header) → Header
-kept Accepted returned last = returned
-kept (Refused refusal) returned last = last
+abbrev pub kept : Result (Unit {0}) Refusal → (returned last : Header) → Header
+kept (Ok _) returned last = returned
+kept (Err refusal) returned last = last
 
 abbrev pub held_after : Held → Changed → (edges index : List ℕ) → Held
 held_after held r edges index = record { header = kept r.answer r.header held.header; edges = edges; index = index }
@@ -97,5 +103,5 @@ TraceHolds =
     (held : Held) (given : Given) (work : List ℕ) (r : Changed) (edges index : List ℕ)
     (first : Step held given work r edges index) (more : Trace (held_after held r edges index))
     → Begins given
-    → (r.answer ≡ Accepted) ⊎ ((ruling blank (feeds (length held.edges) (length held.index) given work)).number ≡ 0)
+    → (r.answer ≡ Ok tt) ⊎ ((ruling blank (feeds (length held.edges) (length held.index) given work)).number ≡ 0)
     → Accounted (next first more) (account_of (next first more))

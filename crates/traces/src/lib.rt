@@ -7,51 +7,53 @@ ghost use Rattle.std.specs.Prelude.{[]};
 ghost use Rattle.model.specs.Lists.{Bytes};
 ghost use Rattle.store.specs.declared.Header.{Header as Kept};
 ghost use Rattle.demands.specs.Ledger.{opening, insertion, removal, card as card_of};
-ghost use Rattle.traces.specs.Traces.{Step};
+ghost use Rattle.traces.specs.Traces.{Step, changed_by};
 
+use model::{Edge, Refusal};
 use store::{Changed, Header};
 
 pub fn open(header: Header, edges: &mut [u32], index: &mut [u64]) -> Changed
     ensures { (last : Kept) → Step (record { header = last; edges = edges.old; index = index.old })
-        (opening header.vertices header.longest header.totals) [] result edges.new index.new }
+        (opening header.size.vertices header.size.longest header.totals) [] result edges.new index.new }
 {
     header.open(edges, index)
 }
 
 pub fn insert(
     header: Header,
-    from: u32,
-    label: u32,
-    to: u32,
+    edge: Edge,
     edges: &mut [u32],
     index: &mut [u64],
     work: &mut [u64],
 ) -> Changed
     ensures { Step (record { header = header; edges = edges.old; index = index.old })
-        (insertion from label to) work.old result edges.new index.new }
+        (insertion edge.from edge.label edge.to) work.old result edges.new index.new }
 {
-    header.insert(from, label, to, edges, index, work)
+    header.insert(edge, edges, index, work)
 }
 
 pub fn remove(
     header: Header,
-    from: u32,
-    label: u32,
-    to: u32,
+    edge: Edge,
     edges: &mut [u32],
     index: &mut [u64],
     work: &mut [u64],
 ) -> Changed
     ensures { Step (record { header = header; edges = edges.old; index = index.old })
-        (removal from label to) work.old result edges.new index.new }
+        (removal edge.from edge.label edge.to) work.old result edges.new index.new }
 {
-    header.remove(from, label, to, edges, index, work)
+    header.remove(edge, edges, index, work)
 }
 
-pub fn read_card(card: &[u8], edges: &mut [u32], index: &mut [u64], work: &mut [u64]) -> Changed
+pub fn read_card(
+    card: &[u8],
+    edges: &mut [u32],
+    index: &mut [u64],
+    work: &mut [u64],
+) -> Result<Header, Refusal>
     ensures { (small : Bytes card.now) × ((last : Kept)
         → Step (record { header = last; edges = edges.old; index = index.old })
-        (card_of card.now small) work.old result edges.new index.new) }
+        (card_of card.now small) work.old (changed_by result) edges.new index.new) }
 {
     store::read_card(card, edges, index, work)
 }
