@@ -6,13 +6,14 @@ ghost use Rattle.rows.specs.Rows.{StepsTo};
 ghost use Rattle.staging.specs.Stage.{Stages, Unpicked, Stageable, VertexStageable, RestEntry};
 
 use rows::{PICKED, REST};
+use staging::Code;
 
 // Stages, behind the first cnt, the entries of start s: the vertices of its closed row, less the rows of those taken before that are earlier
 // than s. As the rows are closed, what a vertex that was struck out leads to is struck out as well. Returns how many are staged then, or None if
 // there are more than slots.
-fn stage_vertex(w: &mut [u64], s: usize, code: u64, cnt: usize) -> Option<usize>
-    requires { VertexStageable w.old s code cnt }
-    ensures { Stages w.old Unpicked (Joined (StepsTo w.old) code s) cnt w.new result }
+fn stage_vertex(w: &mut [u64], s: usize, code: Code, cnt: usize) -> Option<usize>
+    requires { VertexStageable w.old s cnt }
+    ensures { Stages w.old Unpicked (Joined (StepsTo w.old) code.number s) cnt w.new result }
 {
     rows::copy(w, PICKED, s);
     let mut n = cnt;
@@ -28,9 +29,9 @@ fn stage_vertex(w: &mut [u64], s: usize, code: u64, cnt: usize) -> Option<usize>
 }
 
 // Stages, behind the first cnt, the entries of the starts in row REST. Returns as stage_vertex does.
-pub fn stage(w: &mut [u64], code: u64, cnt: usize) -> Option<usize>
-    requires { Stageable w.old code cnt }
-    ensures { Stages w.old Unpicked (RestEntry w.old code) cnt w.new result }
+pub fn stage(w: &mut [u64], code: Code, cnt: usize) -> Option<usize>
+    requires { Stageable w.old cnt }
+    ensures { Stages w.old Unpicked (RestEntry w.old code.number) cnt w.new result }
 {
     let mut n = cnt;
     let mut next_start = 0;

@@ -19,7 +19,7 @@ use Rattle.staging.proofs.Adding.{stages_as, stages_kept, stages_since}
 use Rattle.steps.specs.Filling.{Starting, LeadsInto, RowsFillable, FillsRows, SourcesClearable, Clears}
 use Rattle.pattern_entries.specs.Pattern.{Led, PatternStageable, PatternStages, LedEntry, StepsStaged}
 
-module _ {edges w : List ℕ} {starts code cnt : ℕ} (p : PatternStageable edges w starts code cnt) where
+module _ {edges w : List ℕ} {starts cnt : ℕ} (p : PatternStageable edges w starts cnt) where
   pub fillable : RowsFillable edges w parent_rows step_rows
   fillable =
       record {
@@ -49,7 +49,7 @@ module _ {edges w : List ℕ} {starts code cnt : ℕ} (p : PatternStageable edge
     starts_kept : (x : ℕ) → x < most_vertices → cell w₁ starts x ≡ cell w starts x
     starts_kept = keeps_cell f.keeps starts (λ r. omega (arith, r.most, p.least))
 
-    pub ready : SinglesStageable edges w₁ starts code cnt
+    pub ready : SinglesStageable edges w₁ starts cnt
     ready =
         record {
           domain = record {
@@ -60,11 +60,10 @@ module _ {edges w : List ℕ} {starts code cnt : ℕ} (p : PatternStageable edge
           };
           small = p.outgoing.small;
           listed = λ s h o. let v = p.sources.only s h (sym (starts_kept s h) ∙ o) in (v.edge, (v.listed, v.from));
-          code_small = p.code_small;
           taken = omega (arith, p.taken, f.keeps.len);
         }
 
-    module _ {w₂ : List ℕ} {r : Option ℕ} (s : StepsStaged w₁ code cnt w₂ r) where
+    module _ {w₂ : List ℕ} {code : ℕ} {r : Option ℕ} (s : StepsStaged w₁ code cnt w₂ r) where
       pub clearable : SourcesClearable edges w₂ step_rows
       clearable =
           record {

@@ -6,7 +6,7 @@ use mathlib.Core.Logic.{◌⊎◌, inl, inr, ⊎_elim, ◌↔◌}
 use Prim.Native.Nat.{ℕ, ◌<◌}
 use native.Mathlib.Omega.{arith}
 use Rattle.std.specs.Prelude.{Option, Some, None}
-use Rattle.model.specs.Limits.{most_vertices}
+use Rattle.model.specs.Limits.{most_vertices, hub_unit}
 use Rattle.model.specs.Build.Hubs.{EntryBy, Plus, Onward}
 use Rattle.model.proofs.Plus.{plus_then, first_step, plus_as}
 use Rattle.model.proofs.Joins.{joining_same, joined_entry, entry_joined, joined_as, direct_joined, joined_direct}
@@ -19,7 +19,8 @@ use Rattle.single_starts.specs.Single.{Single, LastStep, SinglesStageable, Stage
 use Rattle.staging.proofs.Adding.{stages_taken, stages_as, stages_over, stages_then, stages_since, stages_within}
 use Rattle.pattern_entries.specs.Pattern.{StepsStaged}
 
-module _ {edges w : List ℕ} {d code cnt : ℕ} (p : SinglesStageable edges w d code cnt) where
+module _ {edges w : List ℕ} {d cnt : ℕ} (p : SinglesStageable edges w d cnt) {code : ℕ}
+    (small : code < hub_unit) where
   -- the entries by the steps, one or more
   abbrev Wanted : ℕ → Type 0
   Wanted = EntryBy (Plus (StepsTo w)) code
@@ -63,11 +64,10 @@ module _ {edges w : List ℕ} {d code cnt : ℕ} (p : SinglesStageable edges w d
       led : (x y : ℕ) → StepsTo w₂ x y ↔ Plus (StepsTo w) x y
       led x y = Iff.trans (c.is x y) (plus_as (same s) x y)
 
-      pub stageable : Stageable w₂ code n
+      pub stageable : Stageable w₂ n
       stageable =
           record {
             transits = record { on = λ x y z a b. (led x z).1 (plus_then ((led x y).0 a) ((led y z).0 b)) };
-            code_small = p.code_small;
             taken = omega (arith, stages_taken s.stages, c.keeps.len);
           }
 
@@ -102,7 +102,7 @@ module _ {edges w : List ℕ} {d code cnt : ℕ} (p : SinglesStageable edges w d
           let b = r.joined in
           let f = a.related in
           let g = b.related in
-          let (q, _) = joining_same _ _ _ _ _ p.code_small f.from f.to g.from g.to (sym a.is ∙ b.is) in
+          let (q, _) = joining_same _ _ _ _ _ small f.from f.to g.from g.to (sym a.is ∙ b.is) in
           left g.from r.on (rw q at l.single)
 
       pub filled_all : {w₃ : List ℕ} {r : Option ℕ} → Stages w₂ Unpicked (RestEntry w₂ code) n w₃ r → StepsStaged w code cnt w₃ r

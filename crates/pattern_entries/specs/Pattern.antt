@@ -1,6 +1,6 @@
 -- Staging the entries of one pattern: a label, whose edges are listed, and the parent's word behind it.
 use Rattle.std.specs.Prelude.{List, ℕ, ◌≤◌, ◌<◌, Option}
-use Rattle.model.specs.Limits.{most_vertices, hub_unit}
+use Rattle.model.specs.Limits.{most_vertices}
 use Rattle.model.specs.Build.Hubs.{EntryBy, Plus}
 use Rattle.rows.specs.Region.{step_rows, parent_rows, child_rows, open_row}
 use Rattle.rows.specs.Rows.{Row, InRows, Empty, StepsTo}
@@ -13,14 +13,13 @@ pub record Led (edges w : List ℕ) (a b : ℕ) : Type 0 where
   pub to : b < most_vertices
   pub via : LeadsInto edges w parent_rows a b
 
--- the step rows are empty, row `starts` is the vertices where an edge of the list starts, the code fits an entry, and cnt slots are taken
-pub record PatternStageable (edges w : List ℕ) (starts code cnt : ℕ) : Type 0 where
+-- the step rows are empty, row `starts` is the vertices where an edge of the list starts, and cnt slots are taken
+pub record PatternStageable (edges w : List ℕ) (starts cnt : ℕ) : Type 0 where
   pub outgoing : Outgoing edges
   pub least : child_rows ≤ starts
   pub most : starts < open_row
   pub quiet : Empty w step_rows most_vertices
   pub sources : Row w starts (Starting edges)
-  pub code_small : code < hub_unit
   pub taken : HasTaken w cnt
 
 -- the entries of P are staged: the parent's rows and those behind are kept, and the step rows end empty

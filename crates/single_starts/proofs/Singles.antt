@@ -172,7 +172,7 @@ module _ {w₀ w : List ℕ} {d : ℕ} (m : d < open_row) (b : Becomes w₀ w re
   splitting_over t =
       record { stages = stages_since (stages_over t (λ e. (lasts e).0)) b.keeps (λ q u. u.1) (λ q h e. omega arith); rest = tt }
 
-  pub splitting_all : {edges : List ℕ} {code cnt n i : ℕ} {w' : List ℕ} → SinglesStageable edges w₀ d code cnt → length edges ≤ i
+  pub splitting_all : {edges : List ℕ} {code cnt n i : ℕ} {w' : List ℕ} → SinglesStageable edges w₀ d cnt → length edges ≤ i
       → Splitting edges w d code cnt w' n i → StagesSingles w₀ d code cnt w' (Some n)
   splitting_all {edges} {code = code} {w' = w'} p h a =
       record {

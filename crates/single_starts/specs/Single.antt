@@ -1,6 +1,6 @@
 -- Starts whose walks are one step: nothing that they step to starts a step itself.
 use Rattle.std.specs.Prelude.{◌≡◌, List, ◌≢◌, ℕ, ◌/◌, ◌<◌, Option, OnSome}
-use Rattle.model.specs.Limits.{most_vertices, hub_unit}
+use Rattle.model.specs.Limits.{most_vertices}
 use Rattle.model.specs.Lists.{◌∈◌}
 use Rattle.model.specs.Edges.{from_of}
 use Rattle.model.specs.Build.Hubs.{Direct}
@@ -26,19 +26,16 @@ Unsplit r = (r < work_rows) × (r ≢ rest_row)
 abbrev pub StepsWithin : List ℕ → ℕ → ℕ → ℕ → Type 0
 StepsWithin w i a b = StepsTo w a b × (b / 64 ≡ i)
 
--- s is a vertex, the code fits an entry, and cnt slots are taken
-pub record StepsStageable (w : List ℕ) (s code cnt : ℕ) : Type 0 where
+-- s is a vertex, and cnt slots are taken
+pub record StepsStageable (w : List ℕ) (s cnt : ℕ) : Type 0 where
   pub vertex : s < most_vertices
-  pub code_small : code < hub_unit
   pub taken : HasTaken w cnt
 
--- row d has every vertex that steps anywhere, an edge of the list starts at each of its vertices, the code fits an entry, and cnt slots are
--- taken
-pub record SinglesStageable (edges w : List ℕ) (d code cnt : ℕ) : Type 0 where
+-- row d has every vertex that steps anywhere, an edge of the list starts at each of its vertices, and cnt slots are taken
+pub record SinglesStageable (edges w : List ℕ) (d cnt : ℕ) : Type 0 where
   pub domain : Domain w d
   pub small : (x : ℕ) → x ∈ edges → from_of x < most_vertices
   pub listed : (s : ℕ) → s < most_vertices → On w d s → (x : ℕ) × ((x ∈ edges) × (from_of x ≡ s))
-  pub code_small : code < hub_unit
   pub taken : HasTaken w cnt
 
 -- the entries for their steps are staged, and row `rest` is the other vertices of row d if they fit

@@ -10,12 +10,13 @@ ghost use Rattle.single_starts.specs.Single.{StepsWithin, StepsStageable, Single
 
 use model::Edge;
 use rows::{BITS, REST, ROW};
+use staging::Code;
 
 // Stages, behind the first cnt, the entries for the steps from s to the vertices in number i of its row. Returns how many are staged then, or
 // None if there are more than slots.
-fn stage_number(w: &mut [u64], s: usize, i: usize, code: u64, cnt: usize) -> Option<usize>
-    requires { StepsStageable w.old s code cnt × (i < row_numbers) }
-    ensures { Stages w.old AllRows (Direct (StepsWithin w.old i) code s) cnt w.new result }
+fn stage_number(w: &mut [u64], s: usize, i: usize, code: Code, cnt: usize) -> Option<usize>
+    requires { StepsStageable w.old s cnt × (i < row_numbers) }
+    ensures { Stages w.old AllRows (Direct (StepsWithin w.old i) code.number s) cnt w.new result }
 {
     let mut n = cnt;
     let mut x = w[s * ROW + i];
@@ -28,9 +29,9 @@ fn stage_number(w: &mut [u64], s: usize, i: usize, code: u64, cnt: usize) -> Opt
 }
 
 // Stages, behind the first cnt, the entries for the steps from s; returns as stage_number does.
-fn stage_steps(w: &mut [u64], s: usize, code: u64, cnt: usize) -> Option<usize>
-    requires { StepsStageable w.old s code cnt }
-    ensures { Stages w.old AllRows (Direct (StepsTo w.old) code s) cnt w.new result }
+fn stage_steps(w: &mut [u64], s: usize, code: Code, cnt: usize) -> Option<usize>
+    requires { StepsStageable w.old s cnt }
+    ensures { Stages w.old AllRows (Direct (StepsTo w.old) code.number s) cnt w.new result }
 {
     let mut n = cnt;
     for i in 0..ROW {
@@ -45,11 +46,11 @@ pub fn stage_singles(
     edges: &[u32],
     w: &mut [u64],
     domain: usize,
-    code: u64,
+    code: Code,
     cnt: usize,
 ) -> Option<usize>
-    requires { SinglesStageable edges.now w.old domain code cnt }
-    ensures { StagesSingles w.old domain code cnt w.new result }
+    requires { SinglesStageable edges.now w.old domain cnt }
+    ensures { StagesSingles w.old domain code.number cnt w.new result }
 {
     rows::copy(w, REST, domain);
     let mut n = cnt;

@@ -1,6 +1,6 @@
 -- Entries staged behind the rows of work memory.
 use Rattle.std.specs.Prelude.{◌≡◌, List, ◌≢◌, ℕ, ◌+◌, ◌-◌, ◌≤◌, ◌<◌, length, get_or, Option, IfSome, IfNone}
-use Rattle.model.specs.Limits.{most_vertices, least_work, hub_unit}
+use Rattle.model.specs.Limits.{most_vertices, least_work}
 use Rattle.model.specs.Build.Hubs.{Joined}
 use Rattle.rows.specs.Region.{work_rows, rest_row, picked_row}
 use Rattle.rows.specs.Rows.{On, KeepsRows, StepsTo}
@@ -60,16 +60,14 @@ Unpicked r = (r < work_rows) × (r ≢ picked_row)
 pub record Transits (w : List ℕ) : Type 0 where
   pub on : (a b c : ℕ) → StepsTo w a b → StepsTo w b c → StepsTo w a c
 
--- the step rows are closed, the code fits an entry, and cnt slots are taken: for all starts, and for start s
-pub record Stageable (w : List ℕ) (code cnt : ℕ) : Type 0 where
+-- the step rows are closed, and cnt slots are taken: for all starts, and for start s
+pub record Stageable (w : List ℕ) (cnt : ℕ) : Type 0 where
   pub transits : Transits w
-  pub code_small : code < hub_unit
   pub taken : HasTaken w cnt
 
-pub record VertexStageable (w : List ℕ) (s code cnt : ℕ) : Type 0 where
+pub record VertexStageable (w : List ℕ) (s cnt : ℕ) : Type 0 where
   pub vertex : s < most_vertices
   pub transits : Transits w
-  pub code_small : code < hub_unit
   pub taken : HasTaken w cnt
 
 -- e is the entry for a vertex of row `rest` and one to which it steps, with none earlier than both between the two

@@ -8,17 +8,24 @@ ghost use Rattle.staging.specs.Stage.{HasTaken, AllRows, Stages};
 
 use model::{Entry, LEAST_WORK};
 
+// The code of a pattern, for which an entry has room.
+#[derive(Clone, Copy)]
+pub struct Code {
+    pub number: u64,
+    ghost fits: { number < hub_unit },
+}
+
 // The entry for a walk from s to t: the later of the two owns it.
-pub fn joined(s: usize, t: usize, code: u64) -> u64
-    requires { (s < most_vertices) × ((t < most_vertices) × (code < hub_unit)) }
-    ensures { result ≡ joining code s t }
+pub fn joined(s: usize, t: usize, code: Code) -> u64
+    requires { (s < most_vertices) × (t < most_vertices) }
+    ensures { result ≡ joining code.number s t }
 {
     let (side, owner, hub) = if s < t { (1, t, s) } else { (0, s, t) };
     let entry = Entry {
         side,
         owner,
         hub,
-        code,
+        code: code.number,
     };
     entry.number()
 }

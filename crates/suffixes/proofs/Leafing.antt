@@ -9,7 +9,7 @@ use Prim.Native.Nat.{ℕ, suc, ◌+◌, ◌*◌, ◌≤◌, ◌<◌}
 use native.Mathlib.Omega.{arith}
 use lib.ListN.{length, take}
 use Rattle.std.specs.Prelude.{Option, Some}
-use Rattle.model.specs.Limits.{most_vertices, most_label}
+use Rattle.model.specs.Limits.{hub_unit, most_vertices, most_label}
 use Rattle.model.specs.Lists.{◌∈◌}
 use Rattle.model.specs.Edges.{to_of}
 use Rattle.model.specs.Patterns.{Keyed, code}
@@ -87,6 +87,10 @@ module _ {edges slots word w : List ℕ} {starts : ℕ} {live : List ℕ} {longe
         short = omega (arith, l.chosen.more);
         labels = child_labels l.chosen small;
       }
+
+  -- an entry has room for its code
+  pub code_fits : {m : ℕ} → m ≡ code (suc c ∷ word) → m < hub_unit
+  code_fits e = omega (arith, e, code_below l.chosen.most keyed)
 
   -- ---- the edges gathered
   module _ {live' : List ℕ} {n : ℕ} (g : Gathers (section edges slots c) w starts live' n) where
@@ -172,15 +176,14 @@ module _ {edges slots word w : List ℕ} {starts : ℕ} {live : List ℕ} {longe
           via : t < most_vertices → LeadsInto gathered w₁ parent_rows a t ↔ Via edges w₁ parent_rows a (suc c) t
           via k = live_via l.grouped c small gathers (started kept) k
 
-      pub pattern_stageable : {m : ℕ} → m ≡ code (suc c ∷ word) → PatternStageable gathered w₁ (base_of word + c) m cnt
-      pattern_stageable {m} e =
+      pub pattern_stageable : PatternStageable gathered w₁ (base_of word + c) cnt
+      pattern_stageable =
           record {
             outgoing = outgoing;
             least = omega arith;
             most = omega (arith, deep, l.chosen.most);
             quiet = quiet;
             sources = b.row;
-            code_small = omega (arith, e, code_below l.chosen.most keyed);
             taken = taken;
           }
 

@@ -10,6 +10,7 @@ ghost use Rattle.model.specs.Build.Suffixes.{Leaf, Some, Beyond};
 ghost use Rattle.suffixes.specs.Suffixes.{PatternEntry, base_of, NodeStageable, NodeStages, LeafStageable, LeafStages, LeavesStage, LevelStages};
 
 use model::{MOST_LABEL, MOST_LONGEST};
+use staging::Code;
 use std::marker::Model;
 
 // Where patterns are looked for: the edges of a graph, grouped by label, the slots where those of each label begin, and how many labels the
@@ -112,7 +113,8 @@ fn leaf(
     let next = word.with(c);
     let pattern = next.as_slice();
     if is_own(pattern) {
-        let code = patterns::code(pattern);
+        let number = patterns::code(pattern);
+        let code = Code { number };
         return pattern_entries::stage(&live[..n], w, row, code, cnt);
     }
     Some(cnt)

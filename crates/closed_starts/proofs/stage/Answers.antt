@@ -11,21 +11,20 @@ stage_vertex-requires c =
     record {
       vertex = c.in-Some.ensures.high;
       transits = transits_as (unpicked_steps stages.keeps) pre.transits;
-      code_small = pre.code_small;
       taken = stages_taken stages;
     }
 
 pub returns-in_err-n : goal.returns-in_err-n
 returns-in_err-n c =
     let over = rw c.in_err-n.was at c.stage_vertex.ensures in
-    rw c.from_residual.ensures (through_over (through_more c.loop-s.invariant c.requires.code_small c.in-Some.ensures over))
+    rw c.from_residual.ensures (through_over (through_more c.loop-s.invariant c.args.code.fits c.in-Some.ensures over))
 
 pub loop-s-preserved : goal.loop-s-preserved
 loop-s-preserved c =
     let fits = rw c.in_ok-n.was at c.stage_vertex.ensures in
     record {
       high = omega (arith, c.in-Some.ensures.high);
-      stages = through_more c.loop-s.invariant c.requires.code_small c.in-Some.ensures fits;
+      stages = through_more c.loop-s.invariant c.args.code.fits c.in-Some.ensures fits;
     }
 
 pub returns : goal.returns

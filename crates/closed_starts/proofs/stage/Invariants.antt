@@ -5,7 +5,7 @@ use Rattle.closed_starts.proofs.Passing.{Through}
 use Rattle.closed_starts.proofs.stage.Given as goal
 
 abbrev pub invariant-loop-s : goal.invariant-loop-s
-invariant-loop-s l = Through l.initial.w l.code l.cnt l.w l.n l.next_start
+invariant-loop-s l = Through l.initial.w l.code.number l.cnt l.w l.n l.next_start
 
 abbrev pub decreases-loop-s : goal.decreases-loop-s
 decreases-loop-s l = most_vertices - l.next_start

@@ -17,12 +17,12 @@ returns-in_err-n c =
     let full = rw c.in_err-n.was at c.put.ensures in
     rw c.from_residual.ensures
     (start_stages c.copy.ensures.keeps
-    (taking_full c.loop-u.invariant t c.requires.code_small c.in-Some.ensures c.joined.ensures full))
+    (taking_full c.loop-u.invariant t c.args.code.fits c.in-Some.ensures c.joined.ensures full))
 
 pub loop-u-preserved : goal.loop-u-preserved
 loop-u-preserved c =
     let inv = c.loop-u.invariant in
-    let small = c.requires.code_small in
+    let small = c.args.code.fits in
     let t = transits (goal.at.loop-u-preserved c).After-copy in
     let y = c.in-Some.ensures in
     let e = c.joined.ensures in

@@ -6,7 +6,7 @@ use Rattle.closed_starts.proofs.Striking.{Taking}
 use Rattle.closed_starts.proofs.stage_vertex.Given as goal
 
 abbrev pub invariant-loop-u : goal.invariant-loop-u
-invariant-loop-u l = Taking l.initial.w l.s l.code l.cnt l.w l.n l.next_end
+invariant-loop-u l = Taking l.initial.w l.s l.code.number l.cnt l.w l.n l.next_end
 
 abbrev pub decreases-loop-u : goal.decreases-loop-u
 decreases-loop-u l = most_vertices - l.next_end

@@ -14,10 +14,10 @@ returns-in_err-n c =
     let pre = c.requires in
     let full = rw c.in_err-n.was at c.put.ensures in
     rw c.from_residual.ensures
-    (numbering_full c.loop-x.invariant pre.0.vertex pre.1 pre.0.code_small c.loop-x-test.true c.joined.ensures full)
+    (numbering_full c.loop-x.invariant pre.0.vertex pre.1 c.args.code.fits c.loop-x-test.true c.joined.ensures full)
 
 pub loop-x-preserved : goal.loop-x-preserved
 loop-x-preserved c =
     let pre = c.requires in
     let more = rw c.in_ok-n.was at c.put.ensures in
-    numbering_more c.loop-x.invariant pre.0.vertex pre.1 pre.0.code_small c.loop-x-test.true c.joined.ensures more
+    numbering_more c.loop-x.invariant pre.0.vertex pre.1 c.args.code.fits c.loop-x-test.true c.joined.ensures more

@@ -49,7 +49,6 @@ pub stage_steps-requires : goal.stage_steps-requires
 stage_steps-requires c =
     record {
       vertex = small (goal.at.stage_steps-requires c).After-from-s;
-      code_small = c.requires.code_small;
       taken = stages_taken c.loop-x.invariant.stages;
     }
 
@@ -68,7 +67,7 @@ returns-in_err-n c =
     let over = rw c.in_err-n.was at c.stage_steps.ensures in
     rw c.from_residual.ensures
     (splitting_over pre.domain.most c.copy.ensures
-    (splitting_both d inv s (sym c.bit.ensures ∙ omega (arith, c.if-bit-eq1.true)) end pre.code_small over))
+    (splitting_both d inv s (sym c.bit.ensures ∙ omega (arith, c.if-bit-eq1.true)) end c.args.code.fits over))
 
 pub loop-x-preserved : goal.loop-x-preserved
 loop-x-preserved c =
@@ -84,7 +83,7 @@ loop-x-preserved c =
           let fits = rw w.in_ok-n.was at w.stage_steps.ensures in
           rw
           (w.w-is, w.n-is)
-          (splitting_take d inv s (sym b ∙ omega (arith, w.if-bit-eq1.true)) end pre.code_small pre.small c.loop-x-test.true is fits w.unmark.ensures)
+          (splitting_take d inv s (sym b ∙ omega (arith, w.if-bit-eq1.true)) end c.args.code.fits pre.small c.loop-x-test.true is fits w.unmark.ensures)
       | else-bit-eq1 w ↦
           rw
           (w.w-is, w.n-is)

@@ -4,4 +4,4 @@ use Rattle.single_starts.proofs.Singles.{Splitting}
 use Rattle.single_starts.proofs.stage_singles.Given as goal
 
 abbrev pub invariant-loop-x : goal.invariant-loop-x
-invariant-loop-x l = Splitting l.edges l.initial.w l.domain l.code l.cnt l.w l.n l.x-index
+invariant-loop-x l = Splitting l.edges l.initial.w l.domain l.code.number l.cnt l.w l.n l.x-index

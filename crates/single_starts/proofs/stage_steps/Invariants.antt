@@ -4,4 +4,4 @@ use Rattle.single_starts.proofs.Numbers.{RowStaged}
 use Rattle.single_starts.proofs.stage_steps.Given as goal
 
 abbrev pub invariant-loop-i : goal.invariant-loop-i
-invariant-loop-i l = RowStaged l.initial.w l.s l.code l.cnt l.w (Some l.n) l.i
+invariant-loop-i l = RowStaged l.initial.w l.s l.code.number l.cnt l.w (Some l.n) l.i

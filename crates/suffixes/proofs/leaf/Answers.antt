@@ -13,9 +13,9 @@ use Rattle.edges.specs.Grouped.{section}
 use Rattle.rows.specs.Rows.{Becomes}
 use Rattle.steps.specs.Filling.{Starting, Gathers}
 use Rattle.suffixes.specs.Suffixes.{base_of}
-use Rattle.suffixes.proofs.Leafing.{of_label, outgoing, keyed, pattern_stageable, leaf_empty, leaf_folds, leaf_stages}
+use Rattle.suffixes.proofs.Leafing.{of_label, outgoing, keyed, code_fits, pattern_stageable, leaf_empty, leaf_folds, leaf_stages}
 use Rattle.suffixes.proofs.leaf.Goals as goal
-use Rattle.suffixes.proofs.leaf.Goals.{After-as_slice-pattern, After-gather-n, After-sources}
+use Rattle.suffixes.proofs.leaf.Goals.{After-as_slice-pattern, After-code-number, After-gather-n, After-sources}
 
 -- the labels of the pattern
 word : (c : After-as_slice-pattern) → c.as_slice-pattern.result.now ≡ suc c.args.c ∷ c.args.word.now
@@ -54,23 +54,28 @@ returns-then-n-eq0 c =
 pub is_own-requires : goal.is_own-requires
 is_own-requires c = pattern (goal.at.is_own-requires c).After-as_slice-pattern
 
-pub code-code-requires : goal.code-code-requires
-code-code-requires c = pattern (goal.at.code-code-requires c).After-as_slice-pattern
+pub code-number-requires : goal.code-number-requires
+code-number-requires c = pattern (goal.at.code-number-requires c).After-as_slice-pattern
+
+-- the code that is staged is that of the label and the word
+number : (c : After-code-number) → c.code-number.result ≡ code_of (suc c.args.c ∷ c.args.word.now)
+number c = c.code-number.ensures ∙ ap code_of (c.as_slice-pattern.ensures ∙ c.with-next.ensures)
+
+pub invariant_of-code : goal.invariant_of-code
+invariant_of-code c = record { fits = code_fits c.requires.0 c.requires.1 (number (goal.at.invariant_of-code c).After-code-number) }
 
 pub stage-requires : goal.stage-requires
 stage-requires c =
     let pre = c.requires in
     let at = goal.at.stage-requires c in
-    rw c.child_row-row.ensures
-    (pattern_stageable pre.0 pre.1 (lists at.After-gather-n) (row at.After-sources) (c.code-code.ensures ∙ ap code_of (word at.After-as_slice-pattern)))
+    rw c.child_row-row.ensures (pattern_stageable pre.0 pre.1 (lists at.After-gather-n) (row at.After-sources))
 
 pub returns-then-is_own : goal.returns-then-is_own
 returns-then-is_own c =
     let pre = c.requires in
     let at = goal.at.returns-then-is_own c in
     let is = ap own? (sym (word at.After-as_slice-pattern)) ∙ (sym c.is_own.ensures ∙ c.if-is_own.true) in
-    leaf_stages pre.0 pre.1 (lists at.After-gather-n) (row at.After-sources) (c.code-code.ensures ∙ ap code_of (word at.After-as_slice-pattern)) is
-    c.stage.ensures
+    leaf_stages pre.0 pre.1 (lists at.After-gather-n) (row at.After-sources) (number at.After-code-number) is c.stage.ensures
 
 pub returns : goal.returns
 returns c =
