@@ -8,9 +8,9 @@ use lib.ListN.{length, drop}
 use Rattle.model.specs.Limits.{head_bytes}
 use Rattle.model.specs.Lists.{Bytes}
 use Rattle.model.specs.Edges.{standing}
-use Rattle.model.specs.Replies.{number_of, answer_of}
+use Rattle.model.specs.Replies.{number_of}
 use Rattle.model.specs.declared.Refusal.{Refusal}
-use Rattle.model.specs.declared.Answer.TheVariants.{Accepted, Refused}
+use Rattle.model.specs.declared.Refusal.TheVariants.{Vertices, Longest, EdgeMemory, WorkMemory, EdgeEnd, EdgeLabel, EdgePresent, EdgeAbsent, EdgeSlots, QueryEnd, QueryPattern, IndexMemory, IndexSlots, CardMark, CardVersion, CardEdges, CardOutput, WalkMemory}
 use Rattle.model.specs.Computed.Edges.{Small}
 use Rattle.model.specs.Computed.Order.{counted}
 use Rattle.model.specs.Computed.Entries.{determined}
@@ -19,12 +19,9 @@ use Rattle.model.proofs.Replies.{number_some}
 use Rattle.calls.specs.Call.{Size, graph_of, Memory, lent, Outcome, Returned, Meets}
 use Rattle.calls.specs.Card.{size_of, count_of, edges_of, read_call}
 use Rattle.calls.proofs.Card.{card_good}
-use Rattle.store.specs.Store.{returned}
-use Rattle.store.specs.declared.Changed.{Changed}
 use Rattle.demands.specs.Needs.{needed}
 use Rattle.demands.proofs.Index.{whole_stands}
 use Rattle.demands.proofs.Reading.{read_said}
-use Rattle.printing.specs.Puts.{Puts}
 use Rattle.printing.specs.Lines.{refused_line, size_line, over_line}
 use Rattle.sizing.specs.Sizing.{refusal_line, line, sized_in}
 
@@ -51,12 +48,26 @@ shown card m bytes e =
 
 -- ---- what is put
 
--- the line of a refusal
-pub over_is : (slots : ℕ) {n : ℕ} → n ≡ 13 → refusal_line slots n ≡ over_line slots
-over_is slots {n} e = rw (eq-eqb n 13 e) refl
-
-pub refused_is : (slots : ℕ) {n : ℕ} → (n ≡ 13 → ⊥) → refusal_line slots n ≡ refused_line n
-refused_is slots {n} h = rw (ne_eqb n 13 h) refl
+-- every refusal but that of too few slots is told by its number
+pub refused_is : (slots : ℕ) (r : Refusal) → (r ≡ IndexSlots → ⊥) → refusal_line slots (number_of r) ≡ refused_line (number_of r)
+refused_is slots Vertices h = refl
+refused_is slots Longest h = refl
+refused_is slots EdgeMemory h = refl
+refused_is slots WorkMemory h = refl
+refused_is slots EdgeEnd h = refl
+refused_is slots EdgeLabel h = refl
+refused_is slots EdgePresent h = refl
+refused_is slots EdgeAbsent h = refl
+refused_is slots EdgeSlots h = refl
+refused_is slots QueryEnd h = refl
+refused_is slots QueryPattern h = refl
+refused_is slots IndexMemory h = refl
+refused_is slots IndexSlots h = absurd (h refl)
+refused_is slots CardMark h = refl
+refused_is slots CardVersion h = refl
+refused_is slots CardEdges h = refl
+refused_is slots CardOutput h = refl
+refused_is slots WalkMemory h = refl
 
 -- the line, by the answer
 sized_is : (card : List ℕ) (m : Memory) {n : ℕ} → (read_call card m).reply.answer ≡ n → sized_in m card ≡ line (length m.index) n card
@@ -67,22 +78,22 @@ line_some : (slots : ℕ) (card : List ℕ) (n : ℕ) → 1 ≤ n → line slots
 line_some slots card zero h = absurd (omega arith)
 line_some slots card (suc n) h = refl
 
-module _ (card : List ℕ) (m : Memory) {r : Changed} {edges index work out out' : List ℕ} {end : ℕ} (meets : Meets (read_call card m) (returned r) (lent edges index work)) where
-  pub puts_sizes : {a n : ℕ} → Bytes card → r.answer ≡ Accepted → a ≡ length (standing edges) → n ≡ length (standing index)
-      → Puts out 0 (size_line r.header.vertices r.header.longest a n) out' end → Puts out 0 (sized_in m card) out' end
-  puts_sizes {a} {n} bytes e p q puts =
-      let accepted : (read_call card m).reply.answer ≡ 0 = sym (ap (λ (x : Returned). x.answer) meets.reply_is) ∙ ap answer_of e in
+module _ (card : List ℕ) (m : Memory) {r : Returned} {edges index work : List ℕ} (meets : Meets (read_call card m) r (lent edges index work)) where
+  pub line_sizes : {a n : ℕ} → Bytes card → r.answer ≡ 0 → a ≡ length (standing edges) → n ≡ length (standing index)
+      → sized_in m card ≡ size_line r.header.size.vertices r.header.size.longest a n
+  line_sizes {a} {n} bytes e p q =
+      let accepted : (read_call card m).reply.answer ≡ 0 = sym (ap (λ (x : Returned). x.answer) meets.reply_is) ∙ e in
       let s = shown card m bytes accepted in
-      let vertices : r.header.vertices ≡ (size_of card).vertices
+      let vertices : r.header.size.vertices ≡ (size_of card).vertices
       = ap (λ (x : Returned). x.header.size.vertices) meets.reply_is ∙ ap (λ (x : Size). x.vertices) s.size in
-      let longest : r.header.longest ≡ (size_of card).longest
+      let longest : r.header.size.longest ≡ (size_of card).longest
       = ap (λ (x : Returned). x.header.size.longest) meets.reply_is ∙ ap (λ (x : Size). x.longest) s.size in
       let legs : a ≡ count_of card = p ∙ ap (λ (l : List ℕ). length (standing l)) meets.edges_after ∙ s.edges in
       let entries : n ≡ needed card = q ∙ ap (λ (l : List ℕ). length (standing l)) meets.index_after ∙ s.index in
-      rw (sized_is card m accepted) (rw (vertices, longest, legs, entries) at puts)
+      sized_is card m accepted ∙ rw (vertices, longest, legs, entries) refl
 
-  pub puts_refusal : {refusal : Refusal} {slots n : ℕ} → r.answer ≡ Refused refusal → slots ≡ length m.index → n ≡ number_of refusal
-      → Puts out 0 (refusal_line slots n) out' end → Puts out 0 (sized_in m card) out' end
-  puts_refusal {refusal} e s p puts =
-      let refused : (read_call card m).reply.answer ≡ number_of refusal = sym (ap (λ (x : Returned). x.answer) meets.reply_is) ∙ ap answer_of e in
-      rw (sized_is card m refused, line_some (length m.index) card (number_of refusal) (number_some refusal)) (rw (s, p) at puts)
+  pub line_refusal : (refusal : Refusal) {slots : ℕ} → r.answer ≡ number_of refusal → slots ≡ length m.index
+      → sized_in m card ≡ refusal_line slots (number_of refusal)
+  line_refusal refusal e s =
+      let refused : (read_call card m).reply.answer ≡ number_of refusal = sym (ap (λ (x : Returned). x.answer) meets.reply_is) ∙ e in
+      sized_is card m refused ∙ line_some (length m.index) card (number_of refusal) (number_some refusal) ∙ ap (λ (k : ℕ). refusal_line k (number_of refusal)) (sym s)

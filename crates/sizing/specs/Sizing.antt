@@ -18,12 +18,7 @@ line slots (suc n) card = refusal_line slots (suc n)
 unfoldable pub sized_in : Memory → List ℕ → List ℕ
 sized_in m card = line (length m.index) (read_call card m).reply.answer card
 
--- the longest line
-abbrev pub line_room : ℕ
-line_room = 117
-
--- memory whose bytes can be told in 32 bits, and room for the longest line
-pub record Measurable (edges index out : List ℕ) : Type 0 where
+-- memory whose bytes can be told in 32 bits
+pub record Measurable (edges index : List ℕ) : Type 0 where
   pub edges_few : length edges ≤ most_edges
   pub index_few : bytes_of (least_work + length index) < 2 ^ 32
-  pub room : line_room ≤ length out

@@ -2,53 +2,48 @@
 // into lent memory.
 #![tactic(auto)]
 
-ghost use Rattle.std.specs.Prelude.{◌≤◌, length};
+ghost use Rattle.std.specs.Prelude.{◌≡◌, []};
+ghost use Rattle.model.specs.Replies.{number_of};
 ghost use Rattle.calls.specs.Call.{lent};
-ghost use Rattle.printing.specs.Puts.{Puts};
-ghost use Rattle.sizing.specs.Sizing.{line_room, Measurable, refusal_line, sized_in};
+ghost use Rattle.sizing.specs.Sizing.{Measurable, refusal_line, sized_in};
 
-use model::Answer;
+use model::Refusal;
+use printing::{Counts, Text};
 
-// The number of refusal 13, fewer slots than entries needed.
-const INDEX_SLOTS: u32 = 13;
+// The longest line.
+pub const ROOM: usize = 117;
 
-// Writes the line of a card that is refused, or that needs more entries than so many slots. Returns where it ends.
-fn put_refusal(out: &mut [u8], slots: u32, refusal: u32) -> usize
-    requires { line_room ≤ length out.old }
-    ensures { Puts out.old 0 (refusal_line slots refusal) out.new result }
+// The line of a card that is refused, or that needs more entries than so many slots.
+fn put_refusal(text: &mut Text<ROOM>, slots: u32, refusal: Refusal)
+    requires { text.old ≡ [] }
+    ensures { text.new ≡ refusal_line slots (number_of refusal) }
 {
-    if refusal == INDEX_SLOTS {
-        return size_lines::put_over(out, 0, slots);
+    match refusal {
+        Refusal::IndexSlots => size_lines::put_over(text, slots),
+        _ => text.put_refused(refusal),
     }
-    printing::put_refused(out, 0, refusal)
 }
 
-// Writes the line of the card. Returns where it ends.
-#[tactic(auto, using(memory::proofs::Reading::standing_within))]
+// The line of the card.
 pub fn measure(
     card: &[u8],
     edges: &mut [u32],
     index: &mut [u64],
     work: &mut [u64],
-    out: &mut [u8],
-) -> usize
-    requires { Measurable edges.old index.old out.old }
-    ensures { Puts out.old 0 (sized_in (lent edges.old index.old work.old) card.now)
-        out.new result }
+    text: &mut Text<ROOM>,
+)
+    requires { Measurable edges.old index.old × (text.old ≡ []) }
+    ensures { text.new ≡ sized_in (lent edges.old index.old work.old) card.now }
 {
-    let changed = store::read_card(card, edges, index, work);
-    let answer = changed.answer;
-    let header = changed.header;
-    match answer {
-        Answer::Refused(refusal) => put_refusal(
-            out,
-            index.len() as u32,
-            replies::refusal_number(refusal),
-        ),
-        Answer::Accepted => {
-            let m = memory::standing_u32(edges);
-            let n = memory::standing_u64(index);
-            size_lines::put_sizes(out, 0, header.vertices, header.longest, m as u32, n as u32)
+    match store::read_card(card, edges, index, work) {
+        Err(refusal) => put_refusal(text, index.len() as u32, refusal),
+        Ok(header) => {
+            let layout = Counts {
+                size: header.size,
+                edges: memory::standing(edges) as u32,
+                entries: memory::standing(index) as u32,
+            };
+            size_lines::put_sizes(text, layout);
         }
     }
 }

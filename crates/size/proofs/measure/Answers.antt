@@ -1,19 +1,12 @@
 -- `size::measure` meets its contract: the memory made for the card can be measured in, and it is the definition's.
+use mathlib.Core.Path.{refl}
 use Prim.Native.Nat.{ℕ}
 use native.Mathlib.Omega.{arith}
 use lib.ListN.{length-replicate}
 use Rattle.model.specs.Limits.{most_edges}
-use Rattle.printing.specs.Puts.{Puts}
-use Rattle.sizing.specs.Sizing.{sized_in}
-use Rattle.size.specs.Sizing.{sized_slots, sized_memory}
+use Rattle.size.specs.Sizing.{sized_slots}
 use Rattle.size.proofs.measure.Goals as goal
 
 pub measure-requires : goal.measure-requires
-measure-requires c = record {
-  edges_few = omega (arith, length-replicate {A = ℕ} most_edges 0);
-  index_few = omega (arith, length-replicate {A = ℕ} sized_slots 0);
-  room = c.requires;
-}
-
-pub returns : goal.returns
-returns c = c.measure.ensures
+measure-requires c =
+    (record { edges_few = omega (arith, length-replicate {A = ℕ} most_edges 0); index_few = omega (arith, length-replicate {A = ℕ} sized_slots 0) }, c.new-text.ensures)
