@@ -1,17 +1,18 @@
 -- What writes to the numbers of a row make of it.
-use mathlib.Core.Path.{◌≡◌, refl, ◌∙◌}
+use mathlib.Core.Path.{◌≡◌, refl}
 use mathlib.Core.List.{List}
 use mathlib.Core.Logic.Iff
 use mathlib.Core.Logic.{◌⊎◌, inl, inr, ⊎_elim, ◌↔◌, ◌≢◌}
-use Prim.Native.Nat.{ℕ, ◌+◌, ◌-◌, ◌*◌, ◌/◌, ◌%◌, ◌^◌, ◌≤◌, ◌<◌}
+use Prim.Native.Nat.{ℕ, ◌+◌, ◌-◌, ◌*◌, ◌/◌, ◌%◌, ◌^◌, ◌<◌}
 use native.Mathlib.Omega.{arith}
 use native.Mathlib.Decide.{ℕ_discrete}
 use lib.Bits.{bit_and, bit_or}
-use lib.ListN.{get_or, set, length, length-set}
+use lib.ListN.{get_or, replicate, set, length, length-set}
 use lib.Seq.{get_or-set_same, get_or-set_other}
+use Rattle.std.proofs.lemmas.List.{get_or-replicate}
 use Rattle.std.specs.Int.{w64, bit_at, bit_not}
-use Rattle.std.proofs.lemmas.Nat.Bits.{bit_at_set_same, bit_at_set_other, bit_at_clear_same, bit_at_clear_other, bit_at_ones, bit_at-zero}
-use Rattle.rows.proofs.Bits.{or_iff, without_iff}
+use Rattle.std.proofs.lemmas.Nat.Bits.{bit_at_set_same, bit_at_set_other, bit_at_clear_same, bit_at_clear_other, bit_at_ones}
+use Rattle.rows.proofs.Bits.{no_bit, or_iff, without_iff}
 use Rattle.model.specs.Limits.{most_vertices}
 use Rattle.rows.specs.Region.{row_numbers}
 use Rattle.rows.specs.Rows.{cell, On, Has, KeepsRows, Becomes}
@@ -52,43 +53,18 @@ pub copy_is : (a : ℕ) {w w' : List ℕ} {x : ℕ} {R : ℕ → ℕ → Type 0}
 unfolding cell
 copy_is a f m = made_is m (λ j y h r. rw (f _ _ r) Iff.rfl)
 
-pub fill_is : {w w' : List ℕ} {r : ℕ} → Makes w w' r (λ i y. y ≡ 2 ^ 64 - 1) → Becomes w w' r (λ k. k < most_vertices)
-fill_is m = made_is m (λ j y h e. (λ _. h, λ _. rw e (bit_at_ones 64 (j % 64) (omega arith))))
+pub fill_is : {w w' : List ℕ} {r : ℕ} → Makes w w' r (λ i y. y ≡ get_or (replicate row_numbers (2 ^ 64 - 1)) i 0) → Becomes w w' r (λ k. k < most_vertices)
+fill_is m = made_is m (λ j y h e. (λ _. h, λ _. rw (e, get_or-replicate row_numbers (j / 64) (2 ^ 64 - 1) 0 (omega arith)) (bit_at_ones 64 (j % 64) (omega arith))))
 
-pub clear_is : {w w' : List ℕ} {r : ℕ} → Makes w w' r (λ i y. y ≡ 0) → Becomes w w' r (λ k. ⊥)
-clear_is m = made_is m (λ j y h e. (λ o. omega (arith, e, bit_at-zero (j % 64), rw e at o), λ p. absurd p))
+pub clear_is : {w w' : List ℕ} {r : ℕ} → Makes w w' r (λ i y. y ≡ get_or (replicate row_numbers 0) i 0) → Becomes w w' r (λ k. ⊥)
+clear_is m = made_is m (λ j y h e. (λ o. no_bit (j % 64) (rw (e, get_or-replicate {A = ℕ} row_numbers (j / 64) 0 0 (omega arith)) at o), λ p. absurd p))
 
 -- ---- number by number
 
--- w' is w with the first i numbers of row x made some that Q holds of, with those of rows a and b
-pub record Making (w w' : List ℕ) (x a b : ℕ) (Q : ℕ → ℕ → ℕ → Type 0) (i : ℕ) : Type 0 where
-  pub keeps : KeepsRows w w' (λ q. q ≢ x)
-  pub rest : (k : ℕ) → i ≤ k → k < row_numbers → number w' x k ≡ number w x k
-  pub made : (k : ℕ) → k < i → Q (number w a k) (number w b k) (number w' x k)
-
-module _ {w w' : List ℕ} {x a b : ℕ} {Q : ℕ → ℕ → ℕ → Type 0} {i : ℕ} (m : Making w w' x a b Q i) (h : i < row_numbers) where
-  -- the numbers that are read next are as they were, also in row x itself
-  reads : (r : ℕ) → number w' r i ≡ number w r i
-  reads r = elim (ℕ_discrete r x) [
-    | yes e ↦ rw e (m.rest i (omega arith) h)
-    | no n ↦ m.keeps.same (r * row_numbers + i) (λ e. n (omega arith))
-  ]
-
-  pub making_more : {v : ℕ} → Has w x → Q (number w' a i) (number w' b i) v → Making w (set w' (x * row_numbers + i) v) x a b Q (i + 1)
-  making_more {v} has y =
-      record {
-        keeps = record {
-          len = length-set w' _ _ ∙ m.keeps.len;
-          same = λ k n. get_or-set_other w' (x * row_numbers + i) k _ 0 (λ e. n (omega arith)) ∙ m.keeps.same k n;
-        };
-        rest = λ k l n. get_or-set_other w' (x * row_numbers + i) _ _ 0 (λ e. omega arith) ∙ m.rest k (omega arith) n;
-        made = λ k l. set_is (Q (number w a k) (number w b k)) w' (x * row_numbers + i) _ (x * row_numbers + k) (omega (arith, m.keeps.len, has.row, has.long))
-            (λ e. let q : k ≡ i = omega arith in rw q made)
-            (λ n. m.made k (omega arith));
-      }
-    where
-      made : Q (number w a i) (number w b i) v
-      made = rw (reads a, reads b) at y
+-- w' is w with the first i numbers of row r those of v
+pub record Storing (w w' : List ℕ) (r : ℕ) (v : List ℕ) (i : ℕ) : Type 0 where
+  pub keeps : KeepsRows w w' (λ q. q ≢ r)
+  pub stored : (k : ℕ) → k < i → number w' r k ≡ get_or v k 0
 
 -- ---- one bit
 module _ {w : List ℕ} {r j : ℕ} (h : Has w r) (l : j < most_vertices) where

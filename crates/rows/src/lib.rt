@@ -1,7 +1,7 @@
 // Sets of vertices as rows of bits in work memory: row r is the ROW numbers from r * ROW on, and bit j of it says whether vertex j is in it.
 #![tactic(auto)]
 
-ghost use Rattle.std.specs.Prelude.{◌≡◌, ◌⊎◌, ◌≤◌, ◌<◌, ◌+◌, ◌*◌, ◌/◌};
+ghost use Rattle.std.specs.Prelude.{◌≡◌, ◌⊎◌, ◌≤◌, ◌<◌, ◌+◌, ◌*◌, ◌/◌, get_or};
 ghost use Rattle.model.specs.Limits.{most_vertices};
 ghost use Rattle.rows.specs.Region.{row_numbers, work_rows};
 ghost use Rattle.rows.specs.Rows.{cell, On, Has, Becomes, NextVertex, FirstInBoth};
@@ -65,15 +65,27 @@ pub fn unmark(w: &mut [u64], r: usize, j: usize)
     w[spot(r, j)] &= !(1 << (j % BITS));
 }
 
+// Makes the numbers of row r those of `row`.
+fn store(w: &mut [u64], r: usize, row: [u64; ROW])
+    requires { Has w.old r }
+    ensures { Makes w.old w.new r (λ i y. y ≡ get_or row i 0) }
+{
+    for i in 0..ROW {
+        w[r * ROW + i] = row[i];
+    }
+}
+
 // Makes each number of row x what `combined` makes of the two at its place in rows a and b. x may be a or b.
 fn combine<F: Fn(u64, u64) -> u64>(w: &mut [u64], x: usize, a: usize, b: usize, combined: F)
     requires rows { Has w.old x × (Has w.old a × Has w.old b) }
     requires calls { F.IsAlwaysCallable combined }
     ensures { Makes w.old w.new x (λ i y. F.post combined (number w.old a i) (number w.old b i) y) }
 {
+    let mut row = [0; ROW];
     for i in 0..ROW {
-        w[x * ROW + i] = combined(w[a * ROW + i], w[b * ROW + i]);
+        row[i] = combined(w[a * ROW + i], w[b * ROW + i]);
     }
+    store(w, x, row);
 }
 
 // Makes row x the vertices in row a or row b; in row a and not in row b. x may be a or b.
@@ -99,27 +111,19 @@ pub fn copy(w: &mut [u64], x: usize, a: usize)
     combine(w, x, a, a, |p, _| p);
 }
 
-// Makes each number of row r the same.
-fn set(w: &mut [u64], r: usize, value: u64)
-    requires { Has w.old r }
-    ensures { Makes w.old w.new r (λ i y. y ≡ value) }
-{
-    w[r * ROW..r * ROW + ROW].fill(value);
-}
-
 // Makes row r all vertices, and none.
 pub fn fill(w: &mut [u64], r: usize)
     requires { Has w.old r }
     ensures { Becomes w.old w.new r (λ k. k < most_vertices) }
 {
-    set(w, r, u64::MAX);
+    store(w, r, [u64::MAX; ROW]);
 }
 
 pub fn clear(w: &mut [u64], r: usize)
     requires { Has w.old r }
     ensures { Becomes w.old w.new r (λ k. ⊥) }
 {
-    set(w, r, 0);
+    store(w, r, [0; ROW]);
 }
 
 // The first vertex of row r from p on.
@@ -127,12 +131,13 @@ pub fn next(w: &[u64], r: usize, p: usize) -> Option<usize>
     requires { Has w.now r × (p ≤ most_vertices) }
     ensures { NextVertex w.now r p result }
 {
+    let mut q = p;
     for i in p / BITS..ROW {
-        let q = p.max(i * BITS);
         let x = w[r * ROW + i] >> (q % BITS);
         if x != 0 {
             return Some(q + x.trailing_zeros() as usize);
         }
+        q = (i + 1) * BITS;
     }
     None
 }

@@ -3,4 +3,4 @@ use Rattle.rows.proofs.Writes.{clear_is}
 use Rattle.rows.proofs.clear.Goals as goal
 
 pub returns : goal.returns
-returns c = clear_is c.set.ensures
+returns c = clear_is c.store.ensures

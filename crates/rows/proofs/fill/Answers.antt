@@ -3,4 +3,4 @@ use Rattle.rows.proofs.Writes.{fill_is}
 use Rattle.rows.proofs.fill.Goals as goal
 
 pub returns : goal.returns
-returns c = fill_is c.set.ensures
+returns c = fill_is c.store.ensures
