@@ -22,10 +22,8 @@ use Rattle.model.proofs.Order.{counted_names}
 use Rattle.edges.specs.Memory.{scan_of}
 use Rattle.edges.proofs.Memory.{Scans, scans}
 use Rattle.build.specs.Build.{Buildable, Builds}
-use Rattle.build.specs.declared.Built.{Built}
-use Rattle.build.specs.declared.Built.TheVariants.{Entries, TooMany}
+use Rattle.std.specs.Prelude.{Option, Some}
 use Rattle.worked_examples.specs.Trials.{figure2, table_ii}
-use Rattle.printing.specs.Lines.{numeral, side_line, entry_line}
 
 abbrev pub edges : List ℕ
 edges = 257 ∷ 514 ∷ 4356 ∷ 4612 ∷ 8449 ∷ 8453 ∷ 8704 ∷ 8707 ∷ 12544 ∷ 13061 ∷ 16640 ∷ []
@@ -69,30 +67,19 @@ pub table_entries : length table_ii ≡ 26
 unfolding table_ii
 table_entries = refl
 
-pub table_bytes : length (spread entry_line table_ii) ≤ 1024
-unfolding table_ii spread entry_line side_line numeral
-table_bytes = omega arith
-
 -- what `build` leaves in 26 slots or more: its reply, and index memory with Table II in front
-pub record BuildsTable (index : List ℕ) (r : Built) : Type 0 where
-  pub reply : r ≡ Entries 26
+pub record BuildsTable (index : List ℕ) (r : Option ℕ) : Type 0 where
+  pub reply : r ≡ Some 26
   pub slots : 26 ≤ length index
   pub front : take 26 index ≡ table_ii
 
-pub built : {index w index' w' : List ℕ} {r : Built} → 26 ≤ length index → Builds graph order index w index' w' r → BuildsTable index' r
+pub built : {index w index' w' : List ℕ} {r : Option ℕ} → 26 ≤ length index → Builds graph order index w index' w' r → BuildsTable index' r
 built {index} {w} {index'} {w'} {r} h b =
     let fits = le-ltb (length index) 26 h in
-    let reply : r ≡ Entries 26 = rw (table_II, table_entries, fits) at b.reply in
+    let reply : r ≡ Some 26 = rw (table_II, table_entries, fits) at b.reply in
     let is : index' ≡ table_ii ++ replicate (length index - 26) 0 = rw (table_II, table_entries, fits) at b.index_is in
     record {
       reply = reply;
       slots = omega (arith, ap length is, length-append table_ii (replicate (length index - 26) 0), table_entries);
       front = ap (take 26) is ∙ take_at table_ii (replicate (length index - 26) 0) 26 table_entries;
     }
-
--- the number of entries that the reply has
-pub entries_are : {r : Built} {n : ℕ} → r ≡ Entries 26 → r ≡ Entries n → n ≡ 26
-entries_are p q = cc
-
-pub not_too_many : {r : Built} {A : Type 0} → r ≡ Entries 26 → r ≡ TooMany → A
-not_too_many p q = absurd (let z : ◌≡◌ {A = ℕ} 0 1 = cc in omega arith)

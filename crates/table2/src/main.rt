@@ -2,19 +2,20 @@
 // each entry in slot order.
 #![tactic(auto)]
 
-ghost use Rattle.std.specs.Prelude.{◌≤◌, length};
+ghost use Rattle.std.specs.Prelude.{◌≡◌};
 ghost use Rattle.model.specs.Computed.Lists.{spread};
 ghost use Rattle.worked_examples.specs.Trials.{table_ii};
-ghost use Rattle.printing.specs.Puts.{Puts};
 ghost use Rattle.printing.specs.Lines.{entry_line};
 
-use build::Built;
+use model::Size;
+use printing::Text;
 use std::io;
 
-// Builds the index and writes its lines, which are those of Table II. Returns where they end.
-fn table(out: &mut [u8]) -> usize
-    requires { 1024 ≤ length out.old }
-    ensures { Puts out.old 0 (spread entry_line table_ii) out.new result }
+const ROOM: usize = 1024;
+
+// Builds the index and writes its lines, which are those of Table II.
+fn table() -> Text<ROOM>
+    ensures { result ≡ spread entry_line table_ii }
 {
     // Fig. 2: from × 4,096 + label × 256 + to, vertex v + 1 there being v here.
     let edges = [
@@ -23,15 +24,17 @@ fn table(out: &mut [u8]) -> usize
     let order = [0u8, 2, 1, 3, 4, 5];
     let mut index = [0u64; 32];
     let mut work = [0u64; 4128];
-    let built = build::build(6, 2, &edges, &order, &mut index, &mut work);
-    let Built::Entries(n) = built else {
-        return 0;
+    let size = Size {
+        vertices: 6,
+        longest: 2,
     };
-    listing_lines::put_entries(out, 0, &index[..n])
+    let mut text = Text::new();
+    if let Some(n) = build::build(size, &edges, &order, &mut index, &mut work) {
+        listing_lines::put_entries(&mut text, &index[..n]);
+    }
+    text
 }
 
 fn main(rt: HostRuntime) -> io::Result<()> {
-    let mut out = [0u8; 1024];
-    let n = table(&mut out);
-    rt.stdout().write_all(&out[..n])
+    rt.stdout().write_all(table().as_bytes())
 }
