@@ -3,3 +3,4 @@ pub mod Scanning
 pub mod BinarySearch
 pub mod Shift
 pub mod Slots
+pub mod Turned

@@ -1,7 +1,7 @@
 // Edge memory: the numbers of edges, check 3, lookup, the slot where a vertex's edges start, insertion and removal.
 #![tactic(auto)]
 
-ghost use Rattle.std.specs.Prelude.{◌≡◌, ◌≤◌, length, get_or};
+ghost use Rattle.std.specs.Prelude.{◌≡◌, ◌-◌, ◌≤◌, ◌<◌, ◌++◌, length, get_or, take, drop};
 ghost use Rattle.model.specs.Limits.{most_vertices};
 ghost use Rattle.model.specs.Lists.{Rising, filled};
 ghost use Rattle.model.specs.Edges.{standing};
@@ -76,13 +76,39 @@ pub fn first_slots(vertices: u32, edges: &[u32]) -> [usize; MOST_VERTICES]
     slots
 }
 
+// Brings the last number to the front. (std's rotations ask memmove of the program that the library is linked into; rlc.h has memset and memcpy.)
+fn last_to_front(part: &mut [u32])
+    requires { 0 < length part.old }
+    ensures { part.new ≡ drop (length part.old - 1) part.old ++ take (length part.old - 1) part.old }
+{
+    let mut moved = part[part.len() - 1];
+    for i in 0..part.len() {
+        let next = part[i];
+        part[i] = moved;
+        moved = next;
+    }
+}
+
+// Brings the first number to the back.
+fn first_to_back(part: &mut [u32])
+    requires { 0 < length part.old }
+    ensures { part.new ≡ drop 1 part.old ++ take 1 part.old }
+{
+    let first = part[0];
+    let last = part.len() - 1;
+    for i in 0..last {
+        part[i] = part[i + 1];
+    }
+    part[last] = first;
+}
+
 // The last slot, which is free, comes to `at`.
 #[tactic(auto, using(crate::proofs::Shift::insert_most))]
 pub fn insert(edges: &mut [u32], at: usize, edge: u32)
     requires { Insertable edges.old at edge }
     ensures { edges.new ≡ filled (length edges.old) (insert_edge edge (standing edges.old)) }
 {
-    edges[at..].rotate_right(1);
+    last_to_front(&mut edges[at..]);
     edges[at] = edge;
 }
 
@@ -92,5 +118,5 @@ pub fn remove(edges: &mut [u32], at: usize)
     ensures { edges.new ≡ filled (length edges.old) (remove_edge (get_or edges.old at 0) (standing edges.old)) }
 {
     edges[at] = 0;
-    edges[at..].rotate_left(1);
+    first_to_back(&mut edges[at..]);
 }

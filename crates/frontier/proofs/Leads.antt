@@ -4,7 +4,7 @@ use mathlib.Core.List.Memᴰ
 use mathlib.Core.List.{List}
 use mathlib.Core.Logic.{◌⊎◌, inl, inr, ⊎_elim}
 use Prim.Native.Nat.{ℕ, suc, ◌+◌, ◌*◌, ◌%◌, ◌≤◌, ◌<◌}
-use native.Mathlib.Nat.{mod-lt}
+use native.Mathlib.Nat.{mod-lt, mod_self}
 use native.Mathlib.Numerals.{add-one}
 use native.Mathlib.Omega.{arith}
 use native.Mathlib.Decide.{dec_lt}
@@ -17,6 +17,10 @@ use Rattle.frontier.specs.Work.{Grown, LedTo, queue}
 use Rattle.frontier.specs.Search.{Short, key_of, base_of}
 use Rattle.frontier.proofs.Grow.{grown_none, grown_then, grown_as}
 use Rattle.frontier.proofs.Spreading.{Ahead, rest, run_all}
+
+-- after the last of n places comes the first
+pub after_last : (k n : ℕ) → k < n → n ≤ k + 1 → (k + 1) % n ≡ 0
+after_last k n h b = let e : k + 1 ≡ n = omega arith in rw e (mod_self n)
 
 module _ (edges l : List ℕ) (x y : ℕ) where
   pub ahead_leads : Ahead edges (length edges) (key_of l x) (base_of l x) y → Leads edges l x y

@@ -1,5 +1,5 @@
 // A search over the states of a graph, and the edges that lead on from a state. A state is labels used * 256 + vertex.
-ghost use Rattle.std.specs.Prelude.{◌≡◌, ◌+◌, ◌*◌, ◌≤◌, ◌<◌, ◌^◌, length, get_or};
+ghost use Rattle.std.specs.Prelude.{◌≡◌, ◌+◌, ◌*◌, ◌%◌, ◌≤◌, ◌<◌, ◌^◌, length, get_or};
 ghost use Rattle.model.specs.Limits.{most_vertices, label_unit};
 ghost use Rattle.model.specs.Computed.Levels.{most_states};
 ghost use Rattle.edges.specs.Slots.{Starts, Skipped};
@@ -20,8 +20,8 @@ pub struct StateSearch<'a> {
     pub ghost starts: { Starts edges.now slots },
 }
 
-// The edges of one label from a vertex: none before slot `from` is one, and they are key + to, for to from 0 to 255. Edge key + to leads to the
-// state base + to.
+// The edges of one label from a vertex: those from slot `from` on that are below `end`. Edge key + to, to from 0 to 255, leads to the state
+// base + to.
 #[derive(Clone, Copy)]
 pub struct Branch {
     pub from: usize,
@@ -29,6 +29,19 @@ pub struct Branch {
     pub base: usize,
     pub ghost end_fits: { key + label_unit < 2 ^ 32 },
     pub ghost states_fit: { base + most_vertices ≤ most_states },
+}
+
+// The place that comes after one of n places, and after the last the first: (place + 1) % n, without a division, which would take longer than the
+// rest of a step.
+#[tactic(auto, using(crate::proofs::Leads::after_last))]
+fn place_after(place: usize, n: usize) -> usize
+    requires { place < n }
+    ensures { result ≡ (place + 1) % n }
+{
+    if place + 1 < n {
+        return place + 1;
+    }
+    0
 }
 
 impl<'a> StateSearch<'a> {
@@ -71,7 +84,7 @@ impl<'a> StateSearch<'a> {
         Branch {
             from: edges::skip(self.edges, self.slots[vertex], key),
             key,
-            base: (used + 1) % self.pattern.len() * MOST_VERTICES,
+            base: place_after(used, self.pattern.len()) * MOST_VERTICES,
         }
     }
 }

@@ -2,4 +2,4 @@ use Rattle.edges.proofs.Shift.{insert_rotated}
 use Rattle.edges.proofs.insert.Goals as goal
 
 pub returns : goal.returns
-returns c = insert_rotated c.requires _ c.rotate_right.ensures.after
+returns c = insert_rotated c.requires _ c.last_to_front.ensures
