@@ -2,9 +2,11 @@
 use mathlib.Core.Path.{◌≡◌, refl, sym, ap, ◌∙◌}
 use mathlib.Core.List.{List, [], ◌∷◌, ◌++◌}
 use Prim.Native.Nat.{ℕ, zero, suc, ◌+◌, ◌-◌, ◌≤◌, ◌<◌}
+use native.Mathlib.Numerals.{add-one}
 use native.Mathlib.Omega.{arith}
-use lib.ListN.{length, get_or, take, drop, set, length-append, length-drop, length-set, get_or-append, drop_of_length-le}
-use lib.Seq.{drop-cons, length-take-le, get_or-take, get_or-drop, get_or_at}
+use lib.ListN.{length, get_or, take, drop, set, length-append, length-drop, length-set, get_or-append, drop_of_length-le, get_or-eq_default}
+use lib.Seq.{ext_get_or, drop-cons, length-take-le, get_or-take, get_or-drop, get_or_at}
+use Rattle.model.proofs.Lists.{get_d_set}
 use Rattle.memory.proofs.Mix.{Mixed, front_none, front_turn, front_full}
 
 module _ (xs : List ℕ) where
@@ -39,25 +41,30 @@ module _ (xs : List ℕ) (h : 0 < length xs) where
   tailed_long : length (tailed xs) ≡ length xs
   tailed_long = omega (arith, h, length-append (drop 1 xs) (take 1 xs), length-drop 1 xs, length-take-le 1 xs (omega (arith, h)))
 
-  pub tailed_none : Mixed (tailed xs) xs xs 0
-  tailed_none = front_none tailed_long
+  pub tailed_none : Mixed xs (tailed xs) xs (length xs)
+  tailed_none =
+      record {
+        same = sym tailed_long;
+        size = sym tailed_long;
+        front = λ k l. refl;
+        back = λ k l. get_or-eq_default xs 0 l ∙ sym (get_or-eq_default (tailed xs) 0 (omega (arith, l, tailed_long)));
+      }
 
-  pub tailed_turn : {cur : List ℕ} {i : ℕ} → Mixed (tailed xs) xs cur i → i < length xs - 1
-      → Mixed (tailed xs) xs (set cur i (get_or cur (i + 1) 0)) (i + 1)
-  tailed_turn {cur} {i} m k =
-      let next : get_or cur (i + 1) 0 ≡ get_or xs (i + 1) 0 = m.back (i + 1) (omega arith) in
-      let at : 1 + i ≡ i + 1 = omega arith in
-      front_turn m (omega (arith, k, m.size))
-      (next ∙ ap (λ (j : ℕ). get_or xs j 0) (sym at) ∙ sym (get_or-drop 1 xs i 0) ∙ sym (get_or-append (drop 1 xs) (take 1 xs) 0 i (omega (arith, k, length-drop 1 xs))))
+  -- what is written at a slot: the number behind it, and the first one at the last
+  tailed_at : (ys : List ℕ) (at : ℕ) → 0 < length ys → get_or (ys ++ get_or ys 0 0 ∷ []) (suc at) 0 ≡ get_or (tailed ys) at 0
+  tailed_at [] at q = absurd (omega (arith, q))
+  tailed_at (y ∷ ys) at q = refl
 
-  pub tailed_full : {cur : List ℕ} {i : ℕ} → Mixed (tailed xs) xs cur i → length xs - 1 ≤ i → i ≤ length xs - 1
-      → set cur (length xs - 1) (get_or xs 0 0) ≡ tailed xs
-  tailed_full {cur} {i} m k l =
-      let at : i ≡ length xs - 1 = omega (arith, k, l) in
-      let e : length (drop 1 xs) ≡ i = omega (arith, h, k, l, length-drop 1 xs) in
-      let here : get_or xs 0 0 ≡ get_or (tailed xs) i 0 = rw (first xs h) (sym (get_or_at (drop 1 xs) (get_or xs 0 0) [] 0 i e)) in
-      rw at at (front_full (front_turn m (omega (arith, h, l, m.size)) here) (omega (arith, h, k, m.size, length-set cur i (get_or xs 0 0))))
-    where
-      first : (ys : List ℕ) → 0 < length ys → take 1 ys ≡ get_or ys 0 0 ∷ []
-      first [] q = absurd (omega (arith, q))
-      first (y ∷ ys) q = refl
+  pub tailed_turn : {cur : List ℕ} {i moved : ℕ} (at : ℕ) → Mixed xs (tailed xs) cur i → i ≡ at + 1 → at < length cur
+      → moved ≡ get_or (xs ++ get_or xs 0 0 ∷ []) i 0 → Mixed xs (tailed xs) (set cur at moved) at
+  tailed_turn {cur} {i} {moved} at m p k e =
+      let v : moved ≡ get_or (tailed xs) at 0 = (rw (p, add-one) at e) ∙ tailed_at xs at h in
+      record {
+        same = m.same;
+        size = length-set cur at moved ∙ m.size;
+        front = λ j l. get_d_set cur at moved j _ k (λ r. absurd (omega (arith, r, l))) (λ d. m.front j (omega (arith, p, l)));
+        back = λ j l. get_d_set cur at moved j _ k (λ r. rw r v) (λ d. m.back j (omega (arith, p, l, d)));
+      }
+
+  pub tailed_full : {cur : List ℕ} {i : ℕ} → Mixed xs (tailed xs) cur i → i ≤ 0 → cur ≡ tailed xs
+  tailed_full {cur} m k = ext_get_or 0 cur (tailed xs) m.size (λ j l. m.back j (omega (arith, k)))

@@ -94,12 +94,12 @@ fn first_to_back(part: &mut [u32])
     requires { 0 < length part.old }
     ensures { part.new ≡ drop 1 part.old ++ take 1 part.old }
 {
-    let first = part[0];
-    let last = part.len() - 1;
-    for i in 0..last {
-        part[i] = part[i + 1];
+    let mut moved = part[0];
+    for i in (0..part.len()).rev() {
+        let next = part[i];
+        part[i] = moved;
+        moved = next;
     }
-    part[last] = first;
 }
 
 // The last slot, which is free, comes to `at`.
