@@ -99,9 +99,9 @@ module _ {h : Size} {from label to : ℕ} {m : Memory} where
     unfolding change_refusal remove_refusal
     takes f =
         let there : get_or m.edges at 0 ≡ edge_number from label to =
-            sym (get_or-take n m.edges at 0 (omega (arith, (stood f).inside, f.passes.count)))
-            ∙ ap (λ (l : List ℕ). get_or l at 0) (memory f.passes).front
-            ∙ (stood f).there in
+        sym (get_or-take n m.edges at 0 (omega (arith, (stood f).inside, f.passes.count)))
+        ∙ ap (λ (l : List ℕ). get_or l at 0) (memory f.passes).front
+        ∙ (stood f).there in
         record {
           is = pass_first (change_checks h from label to m) _ tt f.passes.is ∙ first_is (pass (in_true f) none);
           passes = f.passes;
