@@ -98,13 +98,13 @@
  *
  *   rlc_query_two                                              30 KiB
  *   rlc_insert, rlc_remove, rlc_read_card                      18 KiB
- *   rlc_query                                                  21 KiB
- *   rlc_search, rlc_route                                       5 KiB
+ *   rlc_query                                                  17 KiB
+ *   rlc_search, rlc_route                                       3 KiB
  *   rlc_open, rlc_write_card                                    1 KiB
  *   rlc_minimum_repeat, rlc_minimum_repeat_computed             1 KiB
  *   rlc_times_written                                           1 KiB
  *
- * By a label that the layout lacks a query takes 5 KiB, and a query by two patterns 14 KiB.
+ * By a label that the layout lacks a query takes below 1 KiB, and a query by two patterns 14 KiB.
  *
  *
  * WHAT IT IS BUILT FOR

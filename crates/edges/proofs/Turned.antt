@@ -1,13 +1,13 @@
 -- One number brought from one end of a part to the other: what stands before slot i is as it will be, and from there on as it came.
-use mathlib.Core.Path.{◌≡◌, refl, sym, ap, ◌∙◌}
+use mathlib.Core.Path.{◌≡◌, refl, sym, ◌∙◌}
 use mathlib.Core.List.{List, [], ◌∷◌, ◌++◌}
 use Prim.Native.Nat.{ℕ, zero, suc, ◌+◌, ◌-◌, ◌≤◌, ◌<◌}
 use native.Mathlib.Numerals.{add-one}
 use native.Mathlib.Omega.{arith}
-use lib.ListN.{length, get_or, take, drop, set, length-append, length-drop, length-set, get_or-append, drop_of_length-le, get_or-eq_default}
-use lib.Seq.{ext_get_or, drop-cons, length-take-le, get_or-take, get_or-drop, get_or_at}
+use lib.ListN.{length, get_or, take, drop, set, length-append, length-drop, length-set, drop_of_length-le, get_or-eq_default}
+use lib.Seq.{ext_get_or, drop-cons, length-take-le, get_or-take}
 use Rattle.model.proofs.Lists.{get_d_set}
-use Rattle.memory.proofs.Mix.{Mixed, front_none, front_turn, front_full}
+use Rattle.memory.proofs.Mix.{Mixed, front_none, front_turn}
 
 module _ (xs : List ℕ) where
   -- the last number in front, and the first behind

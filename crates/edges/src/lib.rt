@@ -61,18 +61,28 @@ pub fn skip(edges: &[u32], from: usize, key: u32) -> usize
     i
 }
 
-// For each vertex, the slot where its edges start, so that a search looks at a vertex's own edges only.
+// For each vertex, the slot where its edges start, so that a search looks at a vertex's own edges only. The table is the caller's, so that it
+// stands once on the stack.
 #[tactic(auto, using(crate::proofs::Slots::under_up, crate::proofs::Slots::starts_set))]
-pub fn first_slots(vertices: u32, edges: &[u32]) -> [usize; MOST_VERTICES]
+pub fn fill_slots(vertices: u32, edges: &[u32], slots: &mut [usize; MOST_VERTICES])
     requires { vertices ≤ most_vertices }
-    ensures { Starts edges.now result }
+    ensures { Starts edges.now slots.new }
 {
-    let mut slots = [0usize; MOST_VERTICES];
+    slots.fill(0);
     let mut first = 0;
     for v in 0..vertices {
         first = skip(edges, first, v * FROM_UNIT);
         slots[v as usize] = first;
     }
+}
+
+// The same table, made.
+pub fn first_slots(vertices: u32, edges: &[u32]) -> [usize; MOST_VERTICES]
+    requires { vertices ≤ most_vertices }
+    ensures { Starts edges.now result }
+{
+    let mut slots = [0usize; MOST_VERTICES];
+    fill_slots(vertices, edges, &mut slots);
     slots
 }
 
@@ -102,21 +112,24 @@ fn first_to_back(part: &mut [u32])
     }
 }
 
-// The last slot, which is free, comes to `at`.
-#[tactic(auto, using(crate::proofs::Shift::insert_most))]
+// The first free slot comes to `at`.
+#[tactic(auto, using(crate::proofs::Shift::insert_bounds))]
 pub fn insert(edges: &mut [u32], at: usize, edge: u32)
     requires { Insertable edges.old at edge }
     ensures { edges.new ≡ filled (length edges.old) (insert_edge edge (standing edges.old)) }
 {
-    last_to_front(&mut edges[at..]);
+    let n = at + memory::standing(&edges[at..]);
+    last_to_front(&mut edges[at..=n]);
     edges[at] = edge;
 }
 
-// The slot goes behind all others, as a free one.
+// The slot goes behind the others that stand, as a free one.
+#[tactic(auto, using(crate::proofs::Shift::remove_bounds))]
 pub fn remove(edges: &mut [u32], at: usize)
     requires { Removable edges.old at }
     ensures { edges.new ≡ filled (length edges.old) (remove_edge (get_or edges.old at 0) (standing edges.old)) }
 {
+    let n = at + memory::standing(&edges[at..]);
     edges[at] = 0;
-    first_to_back(&mut edges[at..]);
+    first_to_back(&mut edges[at..n]);
 }

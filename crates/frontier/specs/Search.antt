@@ -1,8 +1,6 @@
 -- What a search over states needs.
 use mathlib.Core.Path.{refl, ap₂}
 use mathlib.Core.List.{[], ◌∷◌}
-use mathlib.Core.Bool.{Bool-set}
-use native.Mathlib.Nat.{ℕ_set}
 use Rattle.std.specs.Coded.{le_prop}
 use Rattle.std.specs.Prelude.{◌≡◌, true, List, ℕ, ◌+◌, ◌*◌, ◌%◌, ◌≤◌, ◌<◌, length, get_or}
 use Rattle.model.specs.Limits.{most_vertices, most_longest, from_unit, label_unit}
@@ -39,5 +37,5 @@ pub rising_prop : (l : List ℕ) → IsProp (Rising l)
 rising_prop [] none none = refl
 rising_prop (x ∷ l) (next h s) (next k t) = ap₂ next (below_prop x l h k) (rising_prop l s t)
 
-pub searchable_prop : (vertices : ℕ) (edges l : List ℕ) (s t : ℕ) → IsProp (Searchable vertices edges l s t)
-searchable_prop vertices edges l s t = Prim.hlevel (le_prop, rising_prop, Bool-set, ℕ_set)
+pub short_prop : (l : List ℕ) → IsProp (Short l)
+short_prop l = Prim.hlevel le_prop

@@ -1,13 +1,14 @@
 // A search over the states of a graph, and the edges that lead on from a state. A state is labels used * 256 + vertex.
 ghost use Rattle.std.specs.Prelude.{◌≡◌, ◌+◌, ◌*◌, ◌%◌, ◌≤◌, ◌<◌, ◌^◌, length, get_or};
 ghost use Rattle.model.specs.Limits.{most_vertices, label_unit};
+ghost use Rattle.model.specs.Lists.{Rising};
 ghost use Rattle.model.specs.Computed.Levels.{most_states};
 ghost use Rattle.edges.specs.Slots.{Starts, Skipped};
-ghost use Rattle.frontier.specs.Search.{Searchable, searchable_prop, key_of, base_of};
+ghost use Rattle.frontier.specs.Search.{Short, rising_prop, short_prop, key_of, base_of};
 
 use model::{FROM_UNIT, LABEL_UNIT, MOST_VERTICES};
 
-// A search from a vertex for another, by a pattern, over rising edges; and for each vertex the slot where its edges start.
+// A search from a vertex for another, by a pattern, over rising edges; and lent with them, for each vertex, the slot where its edges start.
 #[derive(Drop)]
 pub struct StateSearch<'a> {
     pub vertices: u32,
@@ -15,9 +16,10 @@ pub struct StateSearch<'a> {
     pub pattern: &'a [u8],
     pub start: u32,
     pub destination: u32,
-    slots: [usize; MOST_VERTICES],
-    pub ghost searchable: { Searchable vertices edges.now pattern.now start destination } by { searchable_prop vertices edges.now pattern.now start destination },
-    pub ghost starts: { Starts edges.now slots },
+    pub slots: &'a [usize],
+    pub ghost rises: { Rising edges.now } by { rising_prop edges.now },
+    pub ghost short: { Short pattern.now } by { short_prop pattern.now },
+    pub ghost starts: { Starts edges.now slots.now },
 }
 
 // The edges of one label from a vertex: those from slot `from` on that are below `end`. Edge key + to, to from 0 to 255, leads to the state
@@ -48,18 +50,18 @@ impl<'a> StateSearch<'a> {
     pub fn new(
         vertices: u32,
         edges: &'a [u32],
+        slots: &'a [usize],
         pattern: &'a [u8],
         start: u32,
         destination: u32,
     ) -> StateSearch<'a>
-        requires { Searchable vertices edges.now pattern.now start destination }
+        requires { Rising edges.now × (Starts edges.now slots.now × Short pattern.now) }
         ensures vertices { result.vertices ≡ vertices }
         ensures edges { result.edges.now ≡ edges.now }
         ensures pattern { result.pattern.now ≡ pattern.now }
         ensures start { result.start ≡ start }
         ensures destination { result.destination ≡ destination }
     {
-        let slots = edges::first_slots(vertices, edges);
         StateSearch {
             vertices,
             edges,

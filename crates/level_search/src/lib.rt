@@ -11,14 +11,15 @@ ghost use Rattle.frontier.specs.Search.{Searchable};
 ghost use Rattle.level_search.specs.Run.{found_by, Searches, Tells};
 
 use frontier::StateSearch;
-use model::{Refusal, SearchReply, Size};
+use model::{MOST_VERTICES, Refusal, SearchReply, Size};
 
 // The model's number, in the width of a level limit.
 const ENOUGH_LEVELS: u32 = model::ENOUGH_LEVELS as u32;
 
 // The levels, over work memory in which no state is marked.
 fn levels(search: &StateSearch, limit: u32, work: &mut [u64]) -> SearchReply
-    requires { Unmarked work.old }
+    requires searchable { Searchable search.now.vertices search.now.edges.now search.now.pattern.now search.now.start search.now.destination }
+    requires unmarked { Unmarked work.old }
     ensures { reply_of (Ok result) ≡ found_by search.now.vertices search.now.edges.now search.now.pattern.now search.now.start search.now.destination limit }
 {
     work[frontier::QUEUE] = u64::from(search.start);
@@ -37,7 +38,7 @@ fn levels(search: &StateSearch, limit: u32, work: &mut [u64]) -> SearchReply
 
 // The level search with work memory of any content, which it leaves zero.
 pub fn run(search: &StateSearch, limit: u32, work: &mut [u64]) -> SearchReply
-    requires { least_work ≤ length work.old }
+    requires { Searchable search.now.vertices search.now.edges.now search.now.pattern.now search.now.start search.now.destination × (least_work ≤ length work.old) }
     ensures { Searches search.now.vertices search.now.edges.now search.now.pattern.now search.now.start search.now.destination limit work.old result work.new }
 {
     work[..frontier::QUEUE].fill(0);
@@ -46,7 +47,9 @@ pub fn run(search: &StateSearch, limit: u32, work: &mut [u64]) -> SearchReply
     reply
 }
 
-// Whether a walk from s to t runs the pattern: the search with as many levels as always suffice. It leaves work memory zero.
+// Whether a walk from s to t runs the pattern: the search with as many levels as always suffice. It leaves work memory zero. (Its slots stand on
+// the stack only while it runs: a query that does not search takes none of them.)
+#[inline(never)]
 pub fn is_run(
     vertices: u32,
     edges: &[u32],
@@ -58,7 +61,9 @@ pub fn is_run(
     requires { Searchable vertices edges.now pattern.now s t × (least_work ≤ length work.old) }
     ensures { Tells vertices edges.now pattern.now s t work.old result work.new }
 {
-    let search = StateSearch::new(vertices, edges, pattern, s, t);
+    let mut slots = [0usize; MOST_VERTICES];
+    edges::fill_slots(vertices, edges, &mut slots);
+    let search = StateSearch::new(vertices, edges, &slots, pattern, s, t);
     let reply = run(&search, ENOUGH_LEVELS, work);
     matches!(reply, SearchReply::Yes(_))
 }
@@ -76,6 +81,9 @@ pub fn search(
     ensures { Meets (search_call size start destination pattern.now level_limit (lent edges.now [] work.old)) (reply_of result) (lent edges.now [] work.new) }
 {
     let n = query_checks::check_search(size, start, destination, pattern, edges, work)?;
-    let search = StateSearch::new(size.vertices, &edges[..n], pattern, start, destination);
+    let standing = &edges[..n];
+    let mut slots = [0usize; MOST_VERTICES];
+    edges::fill_slots(size.vertices, standing, &mut slots);
+    let search = StateSearch::new(size.vertices, standing, &slots, pattern, start, destination);
     Ok(run(&search, level_limit, work))
 }

@@ -27,7 +27,7 @@ fn list(card: &[u8]) -> Text<ROOM>
     let mut work = [0u64; LEAST_WORK + SLOTS];
     let mut text = Text::new();
     match store::read_card(card, &mut edges, &mut index, &mut work) {
-        Err(refusal) => text.put_refused(refusal),
+        Err(refusal) => text.put_refused(u32::from(refusal)),
         Ok(header) => {
             let m = memory::standing(&edges[..]);
             let n = memory::standing(&index[..]);

@@ -1,11 +1,11 @@
--- The loops that copy memory, for both widths.
+-- The loops that copy memory, and put what a function makes of each number, for both widths.
 use mathlib.Core.Path.{◌≡◌, sym, ◌∙◌}
-use mathlib.Core.List.{List, ◌++◌}
+use mathlib.Core.List.{List, map, ◌++◌}
 use Prim.Native.Nat.{ℕ, ◌+◌, ◌-◌, ◌^◌, ◌≤◌, ◌<◌}
 use native.Mathlib.Omega.{arith}
-use lib.ListN.{length, get_or, take, drop, set, length-append, length-drop}
+use lib.ListN.{length, get_or, take, drop, set, length-append, length-drop, length-map}
 use lib.Seq.{get_or-take, get_or-drop, get_or-append-add, length-take-le}
-use Rattle.model.proofs.Lists.{get_d_in}
+use Rattle.model.proofs.Lists.{get_d_in, get_d_map}
 use Rattle.memory.specs.Widths.{Narrow}
 use Rattle.memory.proofs.Mix.{Mixed, front_none, front_turn, front_end}
 
@@ -39,3 +39,11 @@ module _ (l s : List ℕ) (room : length l ≤ length s) where
   narrow_fits f i h =
       let inside : i < length (take (length l) s) = omega (arith, length-take-le (length l) s room) in
       f (get_or s i 0) (rw (get_or-take (length l) s i 0 h) at (get_d_in (take (length l) s) i inside))
+
+-- f x is put for each x
+pub map_start : (f : ℕ → ℕ) (l : List ℕ) {to : List ℕ} → length l ≡ length to → Mixed (map f l) to to 0
+map_start f l e = front_none (length-map l f ∙ e)
+
+pub map_turn : (f : ℕ → ℕ) (l : List ℕ) {to cur : List ℕ} {i v : ℕ} → Mixed (map f l) to cur i → i < length l → v ≡ f (get_or l i 0)
+    → Mixed (map f l) to (set cur i v) (i + 1)
+map_turn f l {i = i} m h e = front_turn m (omega (arith, m.same, m.size, length-map l f)) (e ∙ sym (get_d_map f l i h))

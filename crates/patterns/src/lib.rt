@@ -22,6 +22,7 @@ pub struct Folded {
 }
 
 // Check 11: 1 to `longest` labels, each 1 to 8.
+#[tactic(auto, using(crate::proofs::Keying::too_long))]
 pub fn is_keyed(longest: u32, pattern: &[u8]) -> bool
     ensures { result ≡ keyed? longest pattern.now }
 {

@@ -1,5 +1,5 @@
--- How long numerals and lines are at most, and what a list of lines is of one more.
-use mathlib.Core.Path.{◌≡◌, refl, ap, ◌∙◌}
+-- Laws of text in lent bytes, how long numerals and lines are at most, and what a list of lines is of one more.
+use mathlib.Core.Path.{◌≡◌, refl, sym, ap, ◌∙◌}
 use mathlib.Core.Bool.{Bool, true, false, cond}
 use mathlib.Core.List.{List, [], ◌∷◌, ◌++◌, append_assoc, append-nil}
 use Prim.Native.Nat.{ℕ, zero, suc, ◌+◌, ◌-◌, ◌*◌, ◌/◌, ◌%◌, ◌≤◌, ◌<◌}
@@ -8,12 +8,53 @@ use native.Mathlib.Numerals.{add-one}
 use native.Mathlib.Omega.{arith}
 use borrow.Author.Tests.{lt-ltb, le-ltb}
 use lib.Dec.{ltb}
-use lib.ListN.{length, take, get_or, length-append}
-use lib.Seq.{take_all, take-suc}
+use lib.ListN.{length, take, drop, get_or, length-append, take-append-drop}
+use lib.Seq.{length-take-le, take_all, take_at, drop_at, drop-drop, take-suc}
 use Rattle.std.proofs.lemmas.Grind.{common_steps}
 use Rattle.model.specs.Computed.Lists.{spread}
 use Rattle.model.proofs.Lists.{spread_append}
+use Rattle.printing.specs.Puts.{Puts}
 use Rattle.printing.specs.Lines.{numeral, side_line, entry_line, counts, header_line, number_line}
+
+-- ---- text in lent bytes
+
+pub puts_none : (out : List ℕ) (at : ℕ) → Puts out at [] out at
+puts_none out at = record { end = omega arith; bytes = sym (take-append-drop at out) }
+
+-- a text copied into the part from `at` to its end
+pub puts_copied : (out text part : List ℕ) (at : ℕ) → part ≡ text
+    → Puts out at text (take at out ++ (part ++ drop ((at + length text) - at) (drop at out))) (at + length text)
+puts_copied out text part at e = record { end = refl; bytes = ap (λ (l : List ℕ). take at out ++ l) part_is }
+  where
+    n : (at + length text) - at ≡ length text
+    n = omega arith
+
+    part_is : part ++ drop ((at + length text) - at) (drop at out) ≡ text ++ drop (at + length text) out
+    part_is = rw (e, n, drop-drop (length text) at out) refl
+
+-- text after text
+pub puts_then : {out s out₁ t out₂ : List ℕ} {at a b : ℕ} → at ≤ length out → Puts out at s out₁ a → Puts out₁ a t out₂ b → Puts out at (s ++ t) out₂ b
+puts_then {out} {s} {out₁} {t} {out₂} {at} {a} {b} inside p q = record { end = omega (arith, p.end, q.end, length-append s t); bytes = whole }
+  where
+    front : length (take at out ++ s) ≡ a
+    front = length-append (take at out) s ∙ ap (λ (n : ℕ). n + length s) (length-take-le at out inside) ∙ sym p.end
+
+    split : out₁ ≡ (take at out ++ s) ++ drop a out
+    split = p.bytes ∙ sym (append_assoc (take at out) s (drop a out))
+
+    before : take a out₁ ≡ take at out ++ s
+    before = ap (take a) split ∙ take_at (take at out ++ s) (drop a out) a front
+
+    behind : drop b out₁ ≡ drop b out
+    behind =
+        ap (λ (n : ℕ). drop n out₁) q.end
+        ∙ sym (drop-drop (length t) a out₁)
+        ∙ ap (drop (length t)) (ap (drop a) split ∙ drop_at (take at out ++ s) (drop a out) a front)
+        ∙ drop-drop (length t) a out
+        ∙ ap (λ (n : ℕ). drop n out) (sym q.end)
+
+    whole : out₂ ≡ take at out ++ ((s ++ t) ++ drop b out)
+    whole = q.bytes ∙ rw (before, behind) (simp append_assoc)
 
 -- ---- numerals
 

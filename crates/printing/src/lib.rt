@@ -4,10 +4,10 @@
 
 ghost use Rattle.std.specs.Prelude.{◌≡◌, ℕ, ◌+◌, ◌≤◌, ◌<◌, List, [], ◌∷◌, ◌++◌, length, take};
 ghost use Rattle.model.specs.Limits.{digit_unit};
-ghost use Rattle.model.specs.Replies.{number_of};
+ghost use Rattle.printing.specs.Puts.{Puts};
 ghost use Rattle.printing.specs.Lines.{numeral, number, counts, number_line, refused_line};
 
-use model::{Refusal, Size};
+use model::Size;
 use std::marker::Model;
 
 // Text of at most ROOM bytes.
@@ -47,6 +47,16 @@ impl<const ROOM: usize> Text<ROOM> {
         ensures { result.now ≡ self.now }
     {
         &self.bytes[..self.end]
+    }
+
+    // Copies the text into lent memory from `at` on, leaves all other bytes as they were, and tells where it ends.
+    pub fn copy_to(&self, out: &mut [u8], at: usize) -> usize
+        requires { at + length self.now ≤ length out.old }
+        ensures { Puts out.old at self.now out.new result }
+    {
+        let end = at + self.end;
+        out[at..end].copy_from_slice(self.as_bytes());
+        end
     }
 
     // One byte.
@@ -117,21 +127,21 @@ impl<const ROOM: usize> Text<ROOM> {
 
     // A line with a number alone.
     #[tactic(auto, using(crate::proofs::Putting::lengths), unfolding(crate::specs::Lines::number_line))]
-    pub fn put_number(&mut self, n: u32)
+    pub fn put_number(&mut self, x: u32)
         requires { length self.old + 11 ≤ ROOM }
-        ensures { self.new ≡ self.old ++ number_line n }
+        ensures { self.new ≡ self.old ++ number_line x }
     {
-        self.put_decimal(n);
+        self.put_decimal(x);
         self.put(b'\n');
     }
 
-    // The line of a refused card.
+    // The line of a refused card, with the refusal's number.
     #[tactic(auto, using(crate::proofs::Putting::lengths), unfolding(crate::specs::Lines::refused_line))]
-    pub fn put_refused(&mut self, refusal: Refusal)
+    pub fn put_refused(&mut self, refusal: u32)
         requires { length self.old + 19 ≤ ROOM }
-        ensures { self.new ≡ self.old ++ refused_line (number_of refusal) }
+        ensures { self.new ≡ self.old ++ refused_line refusal }
     {
         self.put_text(b"refused ");
-        self.put_number(u32::from(refusal));
+        self.put_number(refusal);
     }
 }

@@ -27,6 +27,7 @@ fn check_named(size: Size, start: u32, destination: u32, pattern: &[u8]) -> Resu
 }
 
 // The checks of a query that come before all memory, in their order: 1, 2, 10 and 11.
+#[tactic(auto, using(crate::proofs::Named::ask_pattern))]
 pub fn check(size: Size, start: u32, destination: u32, pattern: &[u8]) -> Result<(), Refusal>
     ensures { answer_of result ≡ ask_refusal size start destination pattern.now }
 {
@@ -35,6 +36,7 @@ pub fn check(size: Size, start: u32, destination: u32, pattern: &[u8]) -> Result
 }
 
 // The checks of the plain check and the route, in their order: 1 2 3 4 10 11. Tells how many edges stand.
+#[tactic(auto, using(crate::proofs::Named::search_ends))]
 pub fn check_search(
     size: Size,
     start: u32,
@@ -71,7 +73,7 @@ pub fn check_two(
 }
 
 // Whether a label of the pattern has total 0 in the record (document 02, Four).
-#[tactic(auto, using(crate::proofs::Lacking::lacking_here, crate::proofs::Lacking::lacking_next))]
+#[tactic(auto, using(crate::proofs::Lacking::lacking_steps))]
 pub fn is_lacking(totals: [u32; MOST_LABEL], pattern: &[u8]) -> bool
     requires { Keyed most_longest pattern.now }
     ensures { result ≡ lacking? totals pattern.now }

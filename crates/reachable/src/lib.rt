@@ -13,7 +13,8 @@ use model::MOST_VERTICES;
 
 // All levels, over work memory in which no state is marked: ends with a mark for every state that is met.
 fn flood(search: &StateSearch, work: &mut [u64])
-    requires { Unmarked work.old }
+    requires searchable { Searchable search.now.vertices search.now.edges.now search.now.pattern.now search.now.start search.now.destination }
+    requires unmarked { Unmarked work.old }
     ensures { Flooded search.now.vertices search.now.edges.now search.now.pattern.now search.now.start work.new }
 {
     work[frontier::QUEUE] = u64::from(search.start);
@@ -46,7 +47,9 @@ pub fn reached(
     requires { Searchable vertices edges.now pattern.now s s × (least_work ≤ length work.old) }
     ensures { TellsFrom vertices edges.now pattern.now s result }
 {
-    let search = StateSearch::new(vertices, edges, pattern, s, s);
+    let mut slots = [0usize; MOST_VERTICES];
+    edges::fill_slots(vertices, edges, &mut slots);
+    let search = StateSearch::new(vertices, edges, &slots, pattern, s, s);
     work[..frontier::QUEUE].fill(0);
     flood(&search, work);
     marked(work)

@@ -190,7 +190,7 @@ pub extern "C" fn rlc_query_two(
         return OTHER_RECORD as u64 * UNIT;
     }
     let header = header_in(words);
-    let reply = store::query_two(
+    let middle = store::query_two(
         header,
         start,
         destination,
@@ -200,7 +200,7 @@ pub extern "C" fn rlc_query_two(
         index,
         work,
     );
-    replies::found_number(reply)
+    replies::found_number(middle)
 }
 
 // The level search (plain check).

@@ -6,15 +6,16 @@ ghost use Rattle.model.specs.Limits.{least_work};
 ghost use Rattle.model.specs.Replies.{routed_of};
 ghost use Rattle.model.specs.Computed.Edges.{bare};
 ghost use Rattle.calls.specs.Call.{lent_out, Meets};
+ghost use Rattle.frontier.specs.Search.{Searchable};
 ghost use Rattle.calls.specs.Route.{route_call};
 ghost use Rattle.route.specs.Run.{Shows};
 
 use frontier::StateSearch;
-use model::{LEAST_WORK, Refusal, Size};
+use model::{LEAST_WORK, MOST_VERTICES, Refusal, Size};
 
 // Lights the route that a search finds, with work memory of any content, which it leaves zero.
 fn run(search: &StateSearch, walk: &mut [u32], work: &mut [u64]) -> Result<Option<u32>, Refusal>
-    requires { least_work ≤ length work.old }
+    requires { Searchable search.now.vertices search.now.edges.now search.now.pattern.now search.now.start search.now.destination × (least_work ≤ length work.old) }
     ensures { Shows (bare search.now.vertices search.now.edges.now) search.now.pattern.now search.now.start search.now.destination walk.old work.old
         result walk.new work.new }
 {
@@ -40,6 +41,9 @@ pub fn route(
         (routed_of result) (lent_out edges.now work.new walk.new) }
 {
     let n = query_checks::check_search(size, start, destination, pattern, edges, work)?;
-    let search = StateSearch::new(size.vertices, &edges[..n], pattern, start, destination);
+    let standing = &edges[..n];
+    let mut slots = [0usize; MOST_VERTICES];
+    edges::fill_slots(size.vertices, standing, &mut slots);
+    let search = StateSearch::new(size.vertices, standing, &slots, pattern, start, destination);
     run(&search, walk, work)
 }

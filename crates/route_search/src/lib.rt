@@ -11,13 +11,15 @@ ghost use Rattle.model.specs.Limits.{least_work};
 ghost use Rattle.model.specs.Lists.{zeroed};
 ghost use Rattle.model.specs.Computed.Edges.{bare};
 ghost use Rattle.model.specs.Computed.Levels.{most_states};
+ghost use Rattle.frontier.specs.Search.{Searchable};
 ghost use Rattle.route_search.specs.Work.{Paused, Enqueues};
 ghost use Rattle.route_search.specs.Traced.{Traced};
 
 mod queued;
 
-use frontier::{QUEUE, StateSearch};
-pub use queued::Queued;
+pub use frontier::QUEUE;
+use frontier::StateSearch;
+pub use queued::{BEFORE_UNIT, Queued, STATE_UNIT};
 
 // Queues the state y, reached from node k by an edge, if it is not queued yet.
 fn reach(work: &mut [u64], y: usize, k: usize, edge: u32, tail: usize) -> usize
@@ -39,7 +41,8 @@ fn reach(work: &mut [u64], y: usize, k: usize, edge: u32, tail: usize) -> usize
 
 // Takes node k: reaches every state that an edge of the next label leads to from its state.
 fn expand(search: &StateSearch, k: usize, work: &mut [u64], tail: usize) -> usize
-    requires { Paused (bare search.now.vertices search.now.edges.now) search.now.pattern.now search.now.start work.old tail k × (k < tail) }
+    requires searchable { Searchable search.now.vertices search.now.edges.now search.now.pattern.now search.now.start search.now.destination }
+    requires paused { Paused (bare search.now.vertices search.now.edges.now) search.now.pattern.now search.now.start work.old tail k × (k < tail) }
     ensures { Paused (bare search.now.vertices search.now.edges.now) search.now.pattern.now search.now.start work.new result (k + 1) }
 {
     let node = Queued::from(work[QUEUE + k]);
@@ -56,7 +59,8 @@ fn expand(search: &StateSearch, k: usize, work: &mut [u64], tail: usize) -> usiz
 
 // The place of the route's last state in the queue, if there is a route, over work memory that is zero.
 pub fn find(search: &StateSearch, work: &mut [u64]) -> Option<usize>
-    requires { (least_work ≤ length work.old) × (work.old ≡ zeroed work.old) }
+    requires searchable { Searchable search.now.vertices search.now.edges.now search.now.pattern.now search.now.start search.now.destination }
+    requires zeros { (least_work ≤ length work.old) × (work.old ≡ zeroed work.old) }
     ensures { Traced (bare search.now.vertices search.now.edges.now) search.now.pattern.now search.now.start search.now.destination work.new result }
 {
     let start = Queued {

@@ -3,9 +3,9 @@ ghost use Rattle.std.specs.Prelude.{◌≡◌, ◌≤◌, ◌<◌};
 ghost use Rattle.model.specs.Computed.Levels.{most_states};
 ghost use Rattle.route_search.specs.Work.{queued_number, before_of, state_of, edge_of};
 
-const BEFORE_UNIT: u64 = 1 << 48;
+pub const BEFORE_UNIT: u64 = 1 << 48;
 
-const STATE_UNIT: u64 = 1 << 32;
+pub const STATE_UNIT: u64 = 1 << 32;
 
 // How many numbers the state's field has room for.
 const STATES: u64 = BEFORE_UNIT / STATE_UNIT;

@@ -23,9 +23,7 @@ fn measure(card: &[u8]) -> Text<ROOM>
     let mut edges = [0u32; MOST_EDGES];
     let mut index = [0u64; SLOTS];
     let mut work = [0u64; LEAST_WORK + SLOTS];
-    let mut text = Text::new();
-    sizing::measure(card, &mut edges, &mut index, &mut work, &mut text);
-    text
+    sizing::measure(card, &mut edges, &mut index, &mut work)
 }
 
 fn main(rt: HostRuntime) -> io::Result<()> {

@@ -3,7 +3,6 @@ use mathlib.Core.Path.{◌≡◌, refl, sym, ap, ◌∙◌}
 use mathlib.Core.List.{List}
 use Prim.Native.Nat.{ℕ, zero, suc, ◌≤◌}
 use native.Mathlib.Omega.{arith}
-use borrow.Author.Tests.{eq-eqb, ne_eqb}
 use lib.ListN.{length, drop}
 use Rattle.model.specs.Limits.{head_bytes}
 use Rattle.model.specs.Lists.{Bytes}
@@ -22,7 +21,7 @@ use Rattle.calls.proofs.Card.{card_good}
 use Rattle.demands.specs.Needs.{needed}
 use Rattle.demands.proofs.Index.{whole_stands}
 use Rattle.demands.proofs.Reading.{read_said}
-use Rattle.printing.specs.Lines.{refused_line, size_line, over_line}
+use Rattle.printing.specs.Lines.{refused_line, size_line}
 use Rattle.sizing.specs.Sizing.{refusal_line, line, sized_in}
 
 -- ---- what a reading leaves

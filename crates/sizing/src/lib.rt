@@ -20,30 +20,26 @@ fn put_refusal(text: &mut Text<ROOM>, slots: u32, refusal: Refusal)
 {
     match refusal {
         Refusal::IndexSlots => size_lines::put_over(text, slots),
-        _ => text.put_refused(refusal),
+        _ => text.put_refused(u32::from(refusal)),
     }
 }
 
 // The line of the card.
-pub fn measure(
-    card: &[u8],
-    edges: &mut [u32],
-    index: &mut [u64],
-    work: &mut [u64],
-    text: &mut Text<ROOM>,
-)
-    requires { Measurable edges.old index.old × (text.old ≡ []) }
-    ensures { text.new ≡ sized_in (lent edges.old index.old work.old) card.now }
+pub fn measure(card: &[u8], edges: &mut [u32], index: &mut [u64], work: &mut [u64]) -> Text<ROOM>
+    requires { Measurable edges.old index.old }
+    ensures { result ≡ sized_in (lent edges.old index.old work.old) card.now }
 {
+    let mut text = Text::new();
     match store::read_card(card, edges, index, work) {
-        Err(refusal) => put_refusal(text, index.len() as u32, refusal),
+        Err(refusal) => put_refusal(&mut text, index.len() as u32, refusal),
         Ok(header) => {
             let layout = Counts {
                 size: header.size,
                 edges: memory::standing(edges) as u32,
                 entries: memory::standing(index) as u32,
             };
-            size_lines::put_sizes(text, layout);
+            size_lines::put_sizes(&mut text, layout);
         }
     }
+    text
 }

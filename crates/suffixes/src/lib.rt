@@ -60,7 +60,7 @@ impl Word {
     }
 
     // The word with label c + 1 before it.
-    fn with(&self, c: usize) -> Word
+    pub fn with(&self, c: usize) -> Word
         requires { (length self.now < most_longest) × (c < most_label) }
         ensures { result ≡ suc c ∷ self.now }
     {

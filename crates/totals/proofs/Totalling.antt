@@ -18,7 +18,7 @@ use Rattle.model.specs.Limits.{most_edges, most_label}
 use Rattle.model.specs.Lists.{from}
 use Rattle.model.specs.Edges.{label_of, standing, total_of, totals_of}
 use Rattle.model.proofs.Tests.{test_map, test_eq}
-use Rattle.model.proofs.Lists.{length_from_lem}
+use Rattle.model.proofs.Lists.{length_from_lem, get_d_set}
 use Rattle.model.proofs.Ranks.{one, raised}
 use Rattle.model.proofs.Totals.{total_at, total_none, total_more, total_most}
 use Rattle.memory.proofs.Reading.{standing_within}
@@ -157,16 +157,28 @@ module _ (edges : List ℕ) where
 
 -- ---- the totals
 
+-- the totals of the first i labels are those of both tables together
+pub record Summed (counts totals : List ℕ) (i : ℕ) : Type 0 where
+  pub long : length totals ≡ most_label
+  pub each : (k : ℕ) → k < i → get_or totals k 0 ≡ both counts (k + 1)
+
+pub summed_more : {counts totals : List ℕ} {i v : ℕ} → Summed counts totals i → i < most_label → v ≡ both counts (i + 1) → Summed counts (set totals i v) (i + 1)
+summed_more {counts} {totals} {i} {v} s h e =
+    record {
+      long = length-set totals i v ∙ s.long;
+      each = λ k l. get_d_set totals i v k (both counts (k + 1)) (omega (arith, s.long)) (λ q. rw q e) (λ n. s.each k (omega arith));
+    }
+
 module _ {edges counts : List ℕ} (t : LabelCounts edges counts) where
   pub counts_small : length edges ≤ most_edges → (c : ℕ) → c < labels → both counts c ≤ most_edges
   counts_small few c h = omega (arith, t.each c h, total_most (standing edges) c, standing_within edges)
 
   -- the table of totals, label by label
-  pub each_total : {totals : List ℕ} → length totals ≡ most_label → ((k : ℕ) → k < most_label → get_or totals k 0 ≡ both counts (k + 1)) → totals ≡ totals_of (standing edges)
+  pub each_total : {totals : List ℕ} → Summed counts totals most_label → totals ≡ totals_of (standing edges)
   unfolding totals_of
-  each_total {totals} n f =
+  each_total {totals} s =
       let long : length (totals_of (standing edges)) ≡ most_label = length-map (from 1 most_label) (total_of (standing edges)) ∙ length_from_lem 1 most_label in
-      ext_get_or 0 totals (totals_of (standing edges)) (n ∙ sym long) (λ k h.
+      ext_get_or 0 totals (totals_of (standing edges)) (s.long ∙ sym long) (λ k h.
       let h : k < most_label = omega arith in
       let place : k + 1 - 1 ≡ k = omega arith in
-      f k h ∙ t.each (k + 1) (omega arith) ∙ sym (rw place at (total_at (standing edges) (k + 1) (omega arith) (omega arith))))
+      s.each k h ∙ t.each (k + 1) (omega arith) ∙ sym (rw place at (total_at (standing edges) (k + 1) (omega arith) (omega arith))))

@@ -45,7 +45,7 @@ fn count_labels(edges: &[u32]) -> [u32; 2 * LABEL_FIELD]
 }
 
 // How many of the standing edges have each label 1 to 8.
-#[tactic(auto, using(crate::proofs::Totalling::counts_small))]
+#[tactic(auto, using(crate::proofs::Totalling::counts_small, crate::proofs::Totalling::summed_more, crate::proofs::Totalling::each_total))]
 pub fn totals(edges: &[u32]) -> [u32; MOST_LABEL]
     requires { length edges.now ≤ most_edges }
     ensures { result ≡ totals_of (standing edges.now) }

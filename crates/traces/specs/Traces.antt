@@ -1,6 +1,7 @@
 -- Demand 3, of what `store` promises. A trace is what a program has seen that calls `store` again and again on one station. Of each call only
 -- this is known: what it was given, what it returned, what memory held before and afterwards, and that the contract of that function holds of
--- these, word for word as it stands in `store`. (src/ shows from those contracts that each call is such a step.)
+-- these, word for word as it stands in `store`; of a card reading, which hands no header back if it is refused, that of what it returned with the
+-- zero header beside the refusal. (src/ shows from those contracts that each call is such a step.)
 use Rattle.std.specs.Prelude.{◌≡◌, ◌⊎◌, Bool, Result, Ok, Err, List, [], ◌∷◌, ℕ, T, length, replicate}
 use Rattle.model.specs.Lists.{◌∈◌, keep, filled, Bytes}
 use Rattle.model.specs.Limits.{most_label}

@@ -12,19 +12,19 @@ pub loop-c-init : goal.loop-c-init
 loop-c-init c = record {
   built = 0;
   next = refl;
-  levels = rw c.from.ensures (built_start _ _ _ _ _ _ (stands_first _ _ _ _ c.args.search.now.searchable c.requires));
+  levels = rw c.from.ensures (built_start _ _ _ _ _ _ (stands_first _ _ _ _ c.requires.searchable c.requires.unmarked));
 }
 
 pub returns-then-work-search-eq1 : goal.returns-then-work-search-eq1
 returns-then-work-search-eq1 c =
     let so_far = c.loop-c.invariant in
-    ap Yes so_far.next ∙ built_yes _ _ _ _ _ _ c.args.search.now.searchable so_far.levels (omega arith) c.next_level-level.ensures.grown c.if-work-search-eq1.true
+    ap Yes so_far.next ∙ built_yes _ _ _ _ _ _ c.requires.searchable so_far.levels (omega arith) c.next_level-level.ensures.grown c.if-work-search-eq1.true
 
 pub returns-then-is_empty : goal.returns-then-is_empty
 returns-then-is_empty c =
     let so_far = c.loop-c.invariant in
     let none : c.next_level-level.result.end ≤ c.next_level-level.result.start = grind (arith, nat_tests) in
-    ap No so_far.next ∙ built_no _ _ _ _ _ _ c.args.search.now.searchable so_far.levels (omega arith) c.next_level-level.ensures.grown (omega arith)
+    ap No so_far.next ∙ built_no _ _ _ _ _ _ c.requires.searchable so_far.levels (omega arith) c.next_level-level.ensures.grown (omega arith)
 
 -- one level more is built
 one_more : (c : Else-is_empty) → LevelsBuilt c.args.search.now.vertices c.args.search.now.edges.now c.args.search.now.pattern.now c.args.search.now.start c.args.search.now.destination
@@ -33,7 +33,7 @@ one_more c =
     let so_far = c.loop-c.invariant in
     let some : c.next_level-level.result.start < c.next_level-level.result.end = grind (arith, nat_tests) in
     rw (so_far.next, c.next_level-level.ensures.start)
-    (built_on _ _ _ _ _ _ c.args.search.now.searchable so_far.levels (omega arith) c.next_level-level.ensures.grown c.if-work-search-eq1.false (omega arith))
+    (built_on _ _ _ _ _ _ c.requires.searchable so_far.levels (omega arith) c.next_level-level.ensures.grown c.if-work-search-eq1.false (omega arith))
 
 pub loop-c-preserved : goal.loop-c-preserved
 loop-c-preserved c = record { built = c.loop-c.c; next = refl; levels = one_more (goal.at.loop-c-preserved c).Else-is_empty }

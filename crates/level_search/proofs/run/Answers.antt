@@ -9,5 +9,5 @@ use Rattle.level_search.proofs.run.Goals as goal
 pub slice_bounds-fill-end-2 : goal.slice_bounds-fill-end-2
 slice_bounds-fill-end-2 c = sym (length-take-le most_states c.args.work.now (omega arith))
 
-pub levels-reply-requires : goal.levels-reply-requires
-levels-reply-requires c = marks_cleared c.args.work.now c.requires (c.fill.ensures.after (λ y e. e))
+pub levels-reply-requires-clause-unmarked : goal.levels-reply-requires-clause-unmarked
+levels-reply-requires-clause-unmarked c = marks_cleared c.args.work.now c.requires.1 (c.fill.ensures.after (λ y e. e))

@@ -14,7 +14,7 @@ slice_bounds-put_listing-end c =
     sym (length-take-le _ _ within)
 
 pub returns-in-Err : goal.returns-in-Err
-returns-in-Err c = rw (c.put_refused.ensures, c.new-text.ensures) (printed_refused _ c.read_card.ensures c.in-Err.is)
+returns-in-Err c = rw (c.put_refused.ensures, c.new-text.ensures, c.from.ensures) (printed_refused _ c.read_card.ensures c.in-Err.is)
 
 pub returns-in-Ok : goal.returns-in-Ok
 returns-in-Ok c =

@@ -6,14 +6,11 @@ use Rattle.std.proofs.lemmas.Grind.{common_steps}
 use Rattle.std.proofs.lemmas.Iterator.{YieldsList-from_slice}
 use Rattle.std.proofs.lemmas.Iterator.Search.{all_from_yields_List}
 use Rattle.model.specs.Computed.Edges.{label?}
-use Rattle.patterns.proofs.Keying.{none_keyed, too_long, labels_keyed}
+use Rattle.patterns.proofs.Keying.{none_keyed, labels_keyed}
 use Rattle.patterns.proofs.is_keyed.Goals as goal
 
 pub returns-then-is_empty : goal.returns-then-is_empty
 returns-then-is_empty c = grind (arith, common_steps, none_keyed)
-
-pub returns-then-longest-pattern : goal.returns-then-longest-pattern
-returns-then-longest-pattern c = too_long _ _ (omega arith)
 
 pub returns : goal.returns
 returns c =

@@ -9,5 +9,5 @@ use Rattle.reachable.proofs.reached.Goals as goal
 pub slice_bounds-fill-end-2 : goal.slice_bounds-fill-end-2
 slice_bounds-fill-end-2 c = sym (length-take-le most_states c.args.work.now (omega arith))
 
-pub flood-requires : goal.flood-requires
-flood-requires c = marks_cleared c.args.work.now c.requires.1 (c.fill.ensures.after (λ y e. e))
+pub flood-requires-clause-unmarked : goal.flood-requires-clause-unmarked
+flood-requires-clause-unmarked c = marks_cleared c.args.work.now c.requires.1 (c.fill.ensures.after (λ y e. e))

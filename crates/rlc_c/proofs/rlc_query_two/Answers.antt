@@ -8,4 +8,4 @@ returns-then-words-ne-RECORD c = rw (other c.args.words.now c.if-words-ne-RECORD
 
 pub returns : goal.returns
 returns c =
-    rw (ten c.args.words.now c.if-words-ne-RECORD.false) (called two_answered_in_c (rw c.header_in-header.ensures at c.query_two-reply.ensures) c.found_number.ensures.two)
+    rw (ten c.args.words.now c.if-words-ne-RECORD.false) (called two_answered_in_c (rw c.header_in-header.ensures at c.query_two-middle.ensures) c.found_number.ensures.two)

@@ -11,11 +11,19 @@ returns-in_err-n c =
     let refused : c.from_residual.result ≡ Err c.in_err-n.field-0.0 = search rules in
     rw refused (route_refused _ _ _ _ _ _ c.in_err-n.ensures)
 
-pub slice_bounds-new-end : goal.slice_bounds-new-end
-slice_bounds-new-end c = sym (length-take-le _ c.args.edges.now (part_edges c.in_ok-n.ensures))
+pub slice_bounds-standing-end : goal.slice_bounds-standing-end
+slice_bounds-standing-end c = sym (length-take-le _ c.args.edges.now (part_edges c.in_ok-n.ensures))
+
+pub fill_slots-requires : goal.fill_slots-requires
+fill_slots-requires c = (searchable c.in_ok-n.ensures).vertices_small
 
 pub new-search-requires : goal.new-search-requires
-new-search-requires c = searchable c.in_ok-n.ensures
+new-search-requires c = let p = searchable c.in_ok-n.ensures in (p.rises, (c.fill_slots.ensures, p.short))
+
+pub run-requires : goal.run-requires
+run-requires c =
+    let e = c.new-search.ensures in
+    rw (e.vertices, e.edges, e.pattern, e.start, e.destination) (searchable c.in_ok-n.ensures, c.in_ok-n.ensures.room)
 
 pub returns : goal.returns
 returns c =

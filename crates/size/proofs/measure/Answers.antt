@@ -1,5 +1,4 @@
 -- `size::measure` meets its contract: the memory made for the card can be measured in, and it is the definition's.
-use mathlib.Core.Path.{refl}
 use Prim.Native.Nat.{ℕ}
 use native.Mathlib.Omega.{arith}
 use lib.ListN.{length-replicate}
@@ -9,4 +8,4 @@ use Rattle.size.proofs.measure.Goals as goal
 
 pub measure-requires : goal.measure-requires
 measure-requires c =
-    (record { edges_few = omega (arith, length-replicate {A = ℕ} most_edges 0); index_few = omega (arith, length-replicate {A = ℕ} sized_slots 0) }, c.new-text.ensures)
+    record { edges_few = omega (arith, length-replicate {A = ℕ} most_edges 0); index_few = omega (arith, length-replicate {A = ℕ} sized_slots 0) }

@@ -15,16 +15,16 @@ use Rattle.sizing.proofs.measure.Goals as goal
 -- no more edges and entries stand than slots
 pub overflow_cast-layout : goal.overflow_cast-layout
 overflow_cast-layout c =
-    omega (arith, c.standing.ensures, standing_within c.read_card.new.edges, c.read_card.auto.edges, c.requires.0.edges_few)
+    omega (arith, c.standing.ensures, standing_within c.read_card.new.edges, c.read_card.auto.edges, c.requires.edges_few)
 
 pub overflow_cast-layout-in-Ok : goal.overflow_cast-layout-in-Ok
 overflow_cast-layout-in-Ok c =
-    omega (arith, c.standing-in-Ok.ensures, standing_within c.read_card.new.index, c.read_card.auto.index, c.requires.0.index_few)
+    omega (arith, c.standing-in-Ok.ensures, standing_within c.read_card.new.index, c.read_card.auto.index, c.requires.index_few)
 
 pub put_sizes-requires : goal.put_sizes-requires
 put_sizes-requires c =
-    let few : bytes_of (least_work + c.standing-in-Ok.result) < 2 ^ 32 = omega (arith, c.standing-in-Ok.ensures, standing_within c.read_card.new.index, c.read_card.auto.index, c.requires.0.index_few) in
-    rw c.requires.1 (omega arith, (few, omega arith))
+    let few : bytes_of (least_work + c.standing-in-Ok.result) < 2 ^ 32 = omega (arith, c.standing-in-Ok.ensures, standing_within c.read_card.new.index, c.read_card.auto.index, c.requires.index_few) in
+    rw c.new-text.ensures (omega arith, (few, omega arith))
 
 pub returns-in-Err : goal.returns-in-Err
 returns-in-Err c =
@@ -33,4 +33,4 @@ returns-in-Err c =
 pub returns-in-Ok : goal.returns-in-Ok
 returns-in-Ok c =
     let bytes : Bytes c.args.card.now = bytes_known c.args.card.now (λ i. omega (arith, c.type_inv.card i)) in
-    c.put_sizes.ensures ∙ rw c.requires.1 (sym (line_sizes _ (lent c.args.edges.now c.args.index.now c.args.work.now) c.in-Ok.ensures bytes (search rules) c.standing.ensures c.standing-in-Ok.ensures))
+    c.put_sizes.ensures ∙ rw c.new-text.ensures (sym (line_sizes _ (lent c.args.edges.now c.args.index.now c.args.work.now) c.in-Ok.ensures bytes (search rules) c.standing.ensures c.standing-in-Ok.ensures))
