@@ -2,20 +2,20 @@
 use mathlib.Core.Path.{◌≡◌, refl, sym, ap, ◌∙◌}
 use mathlib.Core.Bool.{Bool, true, false, cond}
 use mathlib.Core.List.{List}
-use Prim.Native.Nat.{ℕ, suc, ◌+◌, ◌-◌, ◌/◌, ◌%◌, ◌≤◌}
+use Prim.Native.Nat.{ℕ, suc, ◌+◌, ◌-◌, ◌/◌, ◌%◌, ◌≤◌, ◌<◌}
 use native.Mathlib.Nat.{div-add-mod'}
 use native.Mathlib.Numerals.{add-one}
 use native.Mathlib.Omega.{arith}
-use lib.ListN.{length, take}
+use lib.ListN.{length, take, get_or}
 use lib.Seq.{length-take-le}
-use Rattle.std.specs.Bool.{Decides}
 use Rattle.model.specs.Limits.{most_longest}
 use Rattle.model.specs.Patterns.{times, Keyed}
 use Rattle.model.specs.Computed.Patterns.{keyed?, repeat_from, min_repeat, folded_length, times_written}
 use Rattle.model.proofs.Tests.{Tests, test_same, test_true, test_false}
+use Rattle.model.proofs.Lists.{Below}
 use Rattle.model.proofs.Patterns.{length_times, repeat_long, folded_length_lem, times_written_lem}
 use Rattle.patterns.specs.Repeats.{repeats?, length_from}
-use Rattle.patterns.proofs.Repeating.{Shifted, times_shifted, shifted_times}
+use Rattle.patterns.proofs.Repeating.{Back, times_back, back_times}
 
 test_repeats : (l : List ℕ) (d : ℕ) → Tests (repeats? l d) (times (length l / d) (take d l) ≡ l)
 unfolding repeats?
@@ -27,14 +27,15 @@ module _ (l : List ℕ) (d : ℕ) (h : (1 ≤ d) × (d ≤ length l)) where
   repeats_part n = sym (test_false (test_repeats l d) (λ e.
       n (omega (arith, div-add-mod' (length l) d, ap length e, rw (length-take-le d l h.1) at (length_times (length l / d) (take d l))))))
 
-  -- else it repeats if it reads the same from label d on
-  pub repeats_shifted : {r : Bool} → length l % d ≡ 0 → Decides r (Shifted d l) → r ≡ repeats? l d
-  repeats_shifted {r = true} z s =
-      sym (test_true (test_repeats l d) (shifted_times (length l / d) d l (omega (arith, div-add-mod' (length l) d)) (s.0 refl)))
-  repeats_shifted {r = false} z s = sym (test_false (test_repeats l d) (λ e.
-      let back : Shifted (length (take d l)) l = times_shifted (length l / d) (take d l) l e (omega arith) in
-      let k : false ≡ true = s.1 (rw (length-take-le d l h.1) at back) in
-      absurd (cc)))
+  pub repeats_other : {i : ℕ} → d ≤ i → i < length l → (get_or l i 0 ≡ get_or l (i - d) 0 → ⊥) → false ≡ repeats? l d
+  repeats_other {i} a b n = sym (test_false (test_repeats l d) (λ e.
+      let long : length (times (length l / d) (take d l)) ≡ length l = ap length e in
+      let back : Back (times (length l / d) (take d l)) (length (take d l)) i = times_back (length l / d) (take d l) i (omega arith) in
+      n (rw (e, length-take-le d l h.1) at back a)))
+
+  pub repeats_all : {i : ℕ} → length l % d ≡ 0 → length l ≤ i → Below (Back l d) i → true ≡ repeats? l d
+  repeats_all z k b = sym (test_true (test_repeats l d)
+      (back_times (length l / d) d l (omega (arith, div-add-mod' (length l) d)) (record { at = λ j q. b.at j (omega arith) })))
 
   -- one length after another
   from_step : length_from l d ≡ cond (repeats? l d) d (length_from l (d + 1))

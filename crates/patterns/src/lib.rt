@@ -36,7 +36,7 @@ pub fn is_keyed(longest: u32, pattern: &[u8]) -> bool
 }
 
 // Whether the first d labels, written some whole number of times, give the pattern.
-#[tactic(auto, using(crate::proofs::Lengths::repeats_part))]
+#[tactic(auto, using(crate::proofs::Lengths::repeats_part, crate::proofs::Lengths::repeats_all))]
 fn repeats(pattern: &[u8], d: usize) -> bool
     requires { (1 ≤ d) × (d ≤ length pattern.now) }
     ensures { result ≡ repeats? pattern.now d }
@@ -44,7 +44,12 @@ fn repeats(pattern: &[u8], d: usize) -> bool
     if pattern.len() % d != 0 {
         return false;
     }
-    pattern[d..] == pattern[..pattern.len() - d]
+    for i in d..pattern.len() {
+        if pattern[i] != pattern[i - d] {
+            return false;
+        }
+    }
+    true
 }
 
 // Tries one length after another from d.

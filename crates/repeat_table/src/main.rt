@@ -52,19 +52,20 @@ fn put_lengths<const N: usize, const ROOM: usize>(text: &mut Text<ROOM>, count: 
     }
 }
 
-// The whole table.
+// Puts the whole table into a text that is empty. (The text is lent, so that it stands once on the stack.)
 #[tactic(auto, using(crate::proofs::Listed::part_lengths))]
-fn table() -> Text<TABLE_ROOM>
-    ensures { result ≡ spread number_line repeat_lengths }
+fn table(text: &mut Text<TABLE_ROOM>)
+    requires { text.old ≡ [] }
+    ensures { text.new ≡ spread number_line repeat_lengths }
 {
-    let mut text = Text::new();
-    put_lengths::<1, TABLE_ROOM>(&mut text, 8);
-    put_lengths::<2, TABLE_ROOM>(&mut text, 64);
-    put_lengths::<3, TABLE_ROOM>(&mut text, 512);
-    put_lengths::<4, TABLE_ROOM>(&mut text, 4096);
-    text
+    put_lengths::<1, TABLE_ROOM>(text, 8);
+    put_lengths::<2, TABLE_ROOM>(text, 64);
+    put_lengths::<3, TABLE_ROOM>(text, 512);
+    put_lengths::<4, TABLE_ROOM>(text, 4096);
 }
 
 fn main(rt: HostRuntime) -> io::Result<()> {
-    rt.stdout().write_all(table().as_bytes())
+    let mut text = Text::new();
+    table(&mut text);
+    rt.stdout().write_all(text.as_bytes())
 }

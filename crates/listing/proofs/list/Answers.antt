@@ -14,9 +14,9 @@ slice_bounds-put_listing-end c =
     sym (length-take-le _ _ within)
 
 pub returns-in-Err : goal.returns-in-Err
-returns-in-Err c = rw (c.put_refused.ensures, c.new-text.ensures, c.from.ensures) (printed_refused _ c.read_card.ensures c.in-Err.is)
+returns-in-Err c = rw (c.put_refused.ensures, c.requires, c.from.ensures) (printed_refused _ c.read_card.ensures c.in-Err.is)
 
 pub returns-in-Ok : goal.returns-in-Ok
 returns-in-Ok c =
-    rw (c.put_listing.ensures, c.new-text.ensures)
+    rw (c.put_listing.ensures, c.requires)
     (printed_listing _ c.read_card.ensures c.in-Ok.is c.standing-m.ensures c.standing-n.ensures)

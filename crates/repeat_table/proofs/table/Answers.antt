@@ -5,4 +5,4 @@ use Rattle.repeat_table.proofs.table.Goals as goal
 
 pub returns : goal.returns
 returns c =
-    rw (c.put_lengths-4.ensures, c.put_lengths-3.ensures, c.put_lengths-2.ensures, c.put_lengths.ensures, c.new-text.ensures) (sym table_parts)
+    rw (c.put_lengths-4.ensures, c.put_lengths-3.ensures, c.put_lengths-2.ensures, c.put_lengths.ensures, c.requires) (sym table_parts)
