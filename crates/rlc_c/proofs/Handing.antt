@@ -7,7 +7,7 @@ use native.Mathlib.Omega.{arith}
 use lib.ListN.{length, get_or, drop, drop_of_length-le}
 use lib.Seq.{drop-cons}
 use Rattle.model.specs.Lists.{from}
-use Rattle.model.specs.Replies.{number_of, answer_of}
+use Rattle.model.specs.Replies.{number_of}
 use Rattle.model.specs.declared.Refusal.{Refusal}
 use Rattle.model.proofs.Tests.{test_true, test_false, test_eq}
 use Rattle.model.proofs.Replies.{number_some}
