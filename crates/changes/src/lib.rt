@@ -1,4 +1,4 @@
-// The calls that change the layout, over plain numbers: opening, insertion (laying), removal (lifting) and card reading. Checks first,
+// The calls that change the layout, over a size and an edge: opening, insertion (laying), removal (lifting) and card reading. Checks first,
 // which read only; then edge memory is saved, the wanted edges are written, and `settle` does the rest.
 #![tactic(auto)]
 

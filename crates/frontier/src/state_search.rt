@@ -58,6 +58,7 @@ impl<'a> StateSearch<'a> {
         requires { Rising edges.now × (Starts edges.now slots.now × Short pattern.now) }
         ensures vertices { result.vertices ≡ vertices }
         ensures edges { result.edges.now ≡ edges.now }
+        ensures slots { result.slots.now ≡ slots.now }
         ensures pattern { result.pattern.now ≡ pattern.now }
         ensures start { result.start ≡ start }
         ensures destination { result.destination ≡ destination }

@@ -1,5 +1,5 @@
-// What the lines that programs print are made of, as text in fixed memory: words, numbers, counts; and the lines that several print. Each function
-// writes behind what stands there already.
+// What the lines that programs print are made of, as text in fixed memory: words, numbers, counts; and the lines that several print. Each `put`
+// writes behind what stands there already; `copy_to` takes the text into lent memory.
 #![tactic(auto)]
 
 ghost use Rattle.std.specs.Prelude.{◌≡◌, ℕ, ◌+◌, ◌≤◌, ◌<◌, List, [], ◌∷◌, ◌++◌, length, take};

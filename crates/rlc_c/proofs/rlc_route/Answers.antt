@@ -1,4 +1,5 @@
 -- `rlc_c::rlc_route` meets its contract.
+use Rattle.std.proofs.Common.{rules}
 use Rattle.replies.specs.InC.{routed_in_c}
 use Rattle.rlc_c.proofs.Handing.{other, ten, size_is, untouched, called}
 use Rattle.rlc_c.proofs.rlc_route.Goals as goal
@@ -8,4 +9,4 @@ returns-then-words-ne-RECORD c = rw (other c.args.words.now c.if-words-ne-RECORD
 
 pub returns : goal.returns
 returns c =
-    rw (ten c.args.words.now c.if-words-ne-RECORD.false) (called routed_in_c (rw (size_is c.header_in-header.ensures) at c.route-reply.ensures) c.found_number.ensures.route)
+    rw (ten c.args.words.now c.if-words-ne-RECORD.false) (called routed_in_c (rw (size_is c.header_in-header.ensures) at c.route-reply.ensures) (search rules))
