@@ -96,7 +96,7 @@
  * measures it on x86-64; the tests hold these figures to it. memset and memcpy, which the library takes from your C library,
  * are in it with nothing but their return address.
  *
- *   rlc_query_two                                              30 KiB
+ *   rlc_query_two                                              21 KiB
  *   rlc_insert, rlc_remove, rlc_read_card                      18 KiB
  *   rlc_query                                                  17 KiB
  *   rlc_search, rlc_route                                       3 KiB
@@ -104,7 +104,7 @@
  *   rlc_minimum_repeat, rlc_minimum_repeat_computed             1 KiB
  *   rlc_times_written                                           1 KiB
  *
- * By a label that the layout lacks a query takes below 1 KiB, and a query by two patterns 14 KiB.
+ * By a label that the layout lacks a query takes below 1 KiB, by two patterns too.
  *
  *
  * WHAT IT IS BUILT FOR
