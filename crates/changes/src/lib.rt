@@ -2,8 +2,9 @@
 // which read only; then edge memory is saved, the wanted edges are written, and `settle` does the rest.
 #![tactic(auto)]
 
-ghost use Rattle.std.specs.Prelude.{[]};
+ghost use Rattle.std.specs.Prelude.{◌≡◌, []};
 ghost use Rattle.model.specs.Replies.{answer_of};
+ghost use Rattle.model.specs.Lists.{zeroed};
 ghost use Rattle.calls.specs.Call.{lent, Meets};
 ghost use Rattle.calls.specs.Change.{open_change, insert_change, remove_change};
 ghost use Rattle.changes.specs.Changes.{Readings, ReadsCard};
@@ -33,6 +34,15 @@ fn check_read(
     Ok(layout)
 }
 
+// Zeroes edge and index memory.
+fn clear(edges: &mut [u32], index: &mut [u64])
+    ensures edges { edges.new ≡ zeroed edges.old }
+    ensures index { index.new ≡ zeroed index.old }
+{
+    edges.fill(0);
+    index.fill(0);
+}
+
 // Opening.
 pub fn open(size: Size, edges: &mut [u32], index: &mut [u64]) -> Result<(), Refusal>
     ensures { Meets (open_change size (lent edges.old index.old []))
@@ -42,8 +52,7 @@ pub fn open(size: Size, edges: &mut [u32], index: &mut [u64]) -> Result<(), Refu
     if MOST_EDGES < edges.len() {
         return Err(Refusal::EdgeMemory);
     }
-    edges.fill(0);
-    index.fill(0);
+    clear(edges, index);
     Ok(())
 }
 

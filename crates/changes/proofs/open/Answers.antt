@@ -25,4 +25,4 @@ pub returns : goal.returns
 unfolding open_refusal
 returns c =
     open_leaves _ _ (first_is (header_pass _ _ (sym c.in_ok-check_size.ensures) (pass (le-leb _ _ c.if-edges-gt-MOST_EDGES.false) none)))
-    (c.fill.ensures.after (λ y e. e)) (c.fill-2.ensures.after (λ y e. e)) refl refl
+    c.clear.ensures.edges c.clear.ensures.index refl refl
