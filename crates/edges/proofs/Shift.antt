@@ -67,7 +67,7 @@ module _ {xs : List ℕ} {at x : ℕ} (r : Insertable xs at x) where
   pub insert_free : at + length (standing (mid_of at (length xs - at) xs)) ≡ length (standing xs)
   insert_free = first_free xs at (placed_most stands)
 
-  pub insert_most : at ≤ length xs
+  pub insert_most : at < length xs
   insert_most = omega (arith, insert_free, r.room)
 
   pub insert_within : at + length (standing (mid_of at (length xs - at) xs)) < length xs
